@@ -6,3 +6,4 @@ pub mod Requests
 pub mod Makings
 pub mod Written
 pub mod Books
+pub mod Octets

@@ -1,0 +1,15 @@
+pub mod Turns
+pub mod Bounds
+pub mod Acting
+pub mod Places
+pub mod Fits
+pub mod Decided
+pub mod Overrides
+pub mod Filling
+pub mod Updates
+pub mod Fair
+pub mod Doing
+pub mod OnePlace
+pub mod Formed
+pub mod Order
+pub mod Lawful

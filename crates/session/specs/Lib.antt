@@ -1,0 +1,13 @@
+pub mod Answers
+pub mod State
+pub mod Closing
+pub mod Sound
+pub mod View
+pub mod Profiles
+pub mod Deciding
+pub mod Performing
+pub mod Steps
+pub mod Fit
+pub mod Taking
+pub mod Laws
+pub mod Slips

@@ -1,0 +1,13 @@
+pub mod answer;
+mod calls;
+mod decide;
+pub mod event;
+mod ledger;
+mod lines;
+mod making;
+mod perform;
+mod profile;
+pub mod session;
+pub mod slip;
+pub mod state;
+pub mod thresholds;
