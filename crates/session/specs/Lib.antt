@@ -11,3 +11,4 @@ pub mod Fit
 pub mod Taking
 pub mod Laws
 pub mod Slips
+pub mod Figures

@@ -42,7 +42,7 @@ impl Ledger {
         opened
     }
 
-    pub fn open<M: Method, F: ChargingFunction>(
+    pub(crate) fn open<M: Method, F: ChargingFunction>(
         &mut self,
         method: &M,
         t: u32,
@@ -74,7 +74,7 @@ impl Ledger {
     }
 
     // A call that may report.
-    pub fn call<T: Taker>(
+    pub(crate) fn call<T: Taker>(
         &mut self,
         event: Event<Option<LineId>>,
         t: u32,
@@ -106,7 +106,7 @@ impl Ledger {
         Ok(n)
     }
 
-    pub fn finish<T: Taker>(
+    pub(crate) fn finish<T: Taker>(
         &mut self,
         cause: u8,
         slip: u32,
@@ -120,7 +120,7 @@ impl Ledger {
         self.end(act, t, taker)
     }
 
-    pub fn shelve(&mut self, slip: u32, t: u32) -> Result<usize, Refusal>
+    pub(crate) fn shelve(&mut self, slip: u32, t: u32) -> Result<usize, Refusal>
         ensures answer { λ r. ⌜ r ≡ shelving (view (now (self .entry))) t (decide (view (now (self .entry))) Shelving slip t) .answer ⌝ }
         ensures after { λ _. ⌜ view (now (self .exit)) ≡ shelving (view (now (self .entry))) t (decide (view (now (self .entry))) Shelving slip t) .state ⌝ }
         ensures refused { λ r. ⌜ (isOk r ≡ false → now (self .exit) ≡ now (self .entry)) ⌝ }

@@ -427,7 +427,12 @@ impl Ledger {
     }
 
     // What a call does, decided by phase and call together.
-    pub fn decide(&self, event: Event<Option<LineId>>, slip: u32, t: u32) -> Result<Act, Refusal>
+    pub(crate) fn decide(
+        &self,
+        event: Event<Option<LineId>>,
+        slip: u32,
+        t: u32,
+    ) -> Result<Act, Refusal>
         ensures { λ r. ⌜ r ≡ decide (view (now (self .entry))) event slip t ⌝ }
     {
         match (self.marks.phase, event) {

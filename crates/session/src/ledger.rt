@@ -10,12 +10,12 @@ use entries::entry::Entry;
 use entries::trigger::TRIGGERS;
 
 // The most lines, and the most waiting containers: their memory is reserved at the making.
-pub const MOST_LINES: usize = 32;
+pub(crate) const MOST_LINES: usize = 32;
 
-pub const MOST_WAITING: usize = 128;
+pub(crate) const MOST_WAITING: usize = 128;
 
 #[derive(Drop)]
-pub struct Ledger {
+pub(crate) struct Ledger {
     pub(crate) id: u32,
     pub(crate) settings: [Trigger; TRIGGERS],
     pub(crate) marks: Marks,

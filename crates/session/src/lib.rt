@@ -2,6 +2,7 @@ pub mod answer;
 mod calls;
 mod decide;
 pub mod event;
+pub mod laws;
 mod ledger;
 mod lines;
 mod making;

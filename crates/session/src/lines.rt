@@ -19,7 +19,7 @@ fn is_same(a: LineId, b: LineId) -> bool
 }
 
 // The index of the line with an identity.
-pub fn find(lines: &[Line], id: LineId) -> Option<usize>
+pub(crate) fn find(lines: &[Line], id: LineId) -> Option<usize>
     ensures place { λ r. ⌜ r ≡ place-from 0 id (now (lines .entry)) ⌝ }
     ensures inside { λ r. ⌜ BySome r (Unit {0}) (λ i. i < length (now (lines .entry))) ⌝ }
 {
@@ -31,7 +31,7 @@ pub fn find(lines: &[Line], id: LineId) -> Option<usize>
     None
 }
 
-pub fn line_at(lines: &[Line], i: usize) -> Line
+pub(crate) fn line_at(lines: &[Line], i: usize) -> Line
     requires { ⌜ i < length (now lines) ⌝ }
     ensures { λ r. ⌜ r ≡ getD (now (lines .entry)) i no-line ⌝ }
 {
@@ -51,7 +51,7 @@ fn is_chosen(chosen: Selection, line: &Line, t: u32) -> bool
 }
 
 // How many lines close.
-pub fn count_closing(lines: &[Line], chosen: Selection, t: u32) -> usize
+pub(crate) fn count_closing(lines: &[Line], chosen: Selection, t: u32) -> usize
     ensures count { λ r. ⌜ r ≡ closing-count (closes chosen t) (now (lines .entry)) ⌝ }
     ensures most { λ r. ⌜ r ≤ length (now (lines .entry)) ⌝ }
 {
@@ -87,7 +87,7 @@ fn close_line(line: &mut Line, cause: u8, period: u16, number: u32, t: u32) -> E
 }
 
 // Closes the chosen lines into containers, numbered from `done` + 1, and answers the number of the last.
-pub fn close_lines(
+pub(crate) fn close_lines(
     lines: &mut [Line],
     waiting: &mut Vec<Entry>,
     chosen: Selection,

@@ -24,7 +24,7 @@ const REPORT_ABOVE: usize = 96;
 // The largest container number.
 const LARGEST_NUMBER: usize = 4_294_967_295;
 
-pub fn make_head(kind: u8, cause: u8, period: u16, number: u32, t: u32, id: u32) -> Entry
+pub(crate) fn make_head(kind: u8, cause: u8, period: u16, number: u32, t: u32, id: u32) -> Entry
     ensures value { λ r. ⌜ r ≡ head kind cause period number t id ⌝ }
     ensures formed { λ r. ⌜ (1 ≤ kind → kind ≤ 3 → head-formed r number ≡ true) ⌝ }
 {
@@ -96,7 +96,7 @@ fn close_all(
 
 impl Ledger {
     // Why there is no place for the containers of an act: their numbers and the waiting list have limits.
-    pub fn no_place(&self, act: &Act, t: u32) -> Option<Refusal>
+    pub(crate) fn no_place(&self, act: &Act, t: u32) -> Option<Refusal>
         ensures { λ r. ⌜ r ≡ no-place (view (now (self .entry))) (now (act .entry)) t ⌝ }
     {
         let n = self.closing(act, t);
@@ -110,7 +110,7 @@ impl Ledger {
     }
 
     // How many lines an act closes.
-    pub fn closing(&self, act: &Act, t: u32) -> usize
+    pub(crate) fn closing(&self, act: &Act, t: u32) -> usize
         ensures count { λ r. ⌜ r ≡ closed-by (view (now (self .entry))) (now (act .entry)) t ⌝ }
         ensures most { λ r. ⌜ r ≤ 32 ⌝ }
     {
@@ -118,7 +118,7 @@ impl Ledger {
     }
 
     // Does what a decision says, up to its report.
-    pub fn perform(&mut self, act: Act, t: u32)
+    pub(crate) fn perform(&mut self, act: Act, t: u32)
         requires fit { ⌜ Fit (view (now self)) t act ⌝ }
         requires space { ⌜ length (vec-items (now self .waiting)) + closed-by (view (now self)) act t ≤ 128 ⌝ }
         requires numbers { ⌜ now self .closed + closed-by (view (now self)) act t ≤ 4294967295 ⌝ }
@@ -160,7 +160,7 @@ impl Ledger {
     }
 
     // Offers an Update if one is due: by the call itself, because one is owed, or because too many containers wait.
-    pub fn report<T: Taker>(&mut self, due: bool, cause: u8, t: u32, taker: &mut T) -> Due
+    pub(crate) fn report<T: Taker>(&mut self, due: bool, cause: u8, t: u32, taker: &mut T) -> Due
         ensures { λ r. ⌜ Comes (report (view (now (self .entry))) due cause t (T·Taker .room (now (taker .entry)))) r (view (now (self .exit))) (T·Taker .book) (T·Taker .took) (now (taker .entry)) (now (taker .exit)) ⌝ }
     {
         if due || self.owed || self.waiting.len() > REPORT_ABOVE {
@@ -170,7 +170,7 @@ impl Ledger {
     }
 
     // Hands all that waits over as a Termination, to a taker whose intake suffices.
-    pub fn terminate<T: Taker>(&mut self, cause: u8, t: u32, taker: &mut T)
+    pub(crate) fn terminate<T: Taker>(&mut self, cause: u8, t: u32, taker: &mut T)
         requires { ⌜ length (vec-items (now self .waiting)) + 1 ≤ T·Taker .room (now taker) ⌝ }
         ensures after { λ _. ⌜ view (now (self .exit)) ≡ offered (view (now (self .entry))) true ⌝ }
         ensures gained { λ _. ⌜ T·Taker .book (now (taker .exit)) ≡ T·Taker .book (now (taker .entry)) ++ (head-of (view (now (self .entry))) 3 cause t ∷ vec-items (now (self .entry) .waiting)) ⌝ }

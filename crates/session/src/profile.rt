@@ -72,7 +72,7 @@ fn apply_one(settings: &mut [Trigger; TRIGGERS], rule: Option<Rule>, o: Override
     true
 }
 
-pub fn apply<M: Method, F: ChargingFunction>(
+pub(crate) fn apply<M: Method, F: ChargingFunction>(
     method: &M,
     function: &F,
     settings: &mut [Trigger; TRIGGERS],
