@@ -71,10 +71,13 @@ fn give_up(session: &mut Session<Converged>, slip: Slip, why: Failure) -> Stop {
 }
 
 fn charge(session: &mut Session<Converged>, book: &mut Book) -> Result<(), Stop> {
-    let (_, slip) = match session.open(100, book) {
-        Ok(opened) => opened,
+    let (opened, slip) = match session.open(100, book) {
+        Ok(answer) => answer,
         Err(why) => return Err(Stop::Failed(why.into())),
     };
+    if opened.applied != 0 || opened.passed != 0 {
+        return Err(give_up(session, slip, Failure::Unexpected));
+    }
     if let Err(why) = count(session, book) {
         return Err(give_up(session, slip, why));
     }
@@ -107,7 +110,11 @@ fn main(rt: LibcRuntime) -> Result<(), Stop> {
     }
     let mut session = made.session;
     let mut table = [BLANK_ENTRY; PLACES];
-    let mut book = Book::new(&mut table, &[]).value;
+    let made = Book::new(&mut table, &[]);
+    if let Some(why) = made.refused {
+        return Err(Stop::Failed(Failure::Refused(why.number())));
+    }
+    let mut book = made.value;
     charge(&mut session, &mut book)?;
     show(&rt, book.entries())?;
     Ok(())

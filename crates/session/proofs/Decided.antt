@@ -24,7 +24,8 @@ use Rattle.session.specs.Fit.{Fit, Known}
 use Rattle.session.specs.Performing.{closed-by}
 use Rattle.session.specs.State.{State}
 use Rattle.session.specs.View.{view}
-use Rattle.session.proofs.Fits.{act-fits, none-close}
+use Rattle.session.proofs.Fits.{act-fits}
+use Rattle.session.proofs.Nothing.{none-close}
 
 pub decided-fits : (g : Ledger) (c : Call) → Known c → (slip t : ℕ) (a : Act) → Ok a ≡ decide (view g) c slip t → Fit (view g) t a
 decided-fits g c known slip t a e = act-fits (view g) (record { sound = g .sound; counted = g .counted }) slip t c known a e
@@ -51,11 +52,11 @@ shelving-quiet s slip t Open = own-quiet s slip (timely s t (Ok (shelve-act s)))
 shelving-quiet s slip t Ended = tt
 shelving-quiet s slip t Shelved = tt
 
-none-closed : (s : State) (a : Act) (t : ℕ) → a .chosen ≡ Nothing → closed-by s a t ≡ 0
-none-closed s a t e = ap (λ (x : Selection). closing-count (closes x t) (s .lines)) e ∙ none-close t (s .lines)
+closes-none : (s : State) (a : Act) (t : ℕ) → a .chosen ≡ Nothing → closed-by s a t ≡ 0
+closes-none s a t e = ap (λ (x : Selection). closing-count (closes x t) (s .lines)) e ∙ none-close t (s .lines)
 
 pub opening-closes-none : (s : State) (slip t : ℕ) (a : Act) → Ok a ≡ decide s Opening slip t → closed-by s a t ≡ 0
-opening-closes-none s slip t a e = none-closed s a t (subst Quiet (sym e) (opening-quiet s slip t (s .marks .phase)))
+opening-closes-none s slip t a e = closes-none s a t (subst Quiet (sym e) (opening-quiet s slip t (s .marks .phase)))
 
 pub shelving-closes-none : (s : State) (slip t : ℕ) (a : Act) → Ok a ≡ decide s Shelve slip t → closed-by s a t ≡ 0
-shelving-closes-none s slip t a e = none-closed s a t (subst Quiet (sym e) (shelving-quiet s slip t (s .marks .phase)))
+shelving-closes-none s slip t a e = closes-none s a t (subst Quiet (sym e) (shelving-quiet s slip t (s .marks .phase)))

@@ -35,6 +35,7 @@ use Rattle.session.specs.Performing.{edited}
 use Rattle.session.specs.Sound.{live, sound-line, sound-lines, volume-of-all, Bounded}
 use Rattle.session.specs.State.{State, no-line, line-at, place-of, place-from, trigger, can-fire, limit-met, is-urgent, with-volume, with-since, in-phase, volume-sum, counted, over-total, open-octets, started, new-line}
 use Rattle.session.proofs.Bounds.{bounds, bounds-hold, sound-parts, sound-from, sound-at, sound-set, sound-later, volume-set}
+use Rattle.session.proofs.Nothing.{none-close}
 use Rattle.session.proofs.Places.{place-within}
 
 -- the bounds that a session keeps
@@ -51,10 +52,6 @@ count-set : (p : Line → Bool) (ls : List Line) (i : ℕ) (x : Line) → p x �
 count-set p [] i x e = refl
 count-set p (l ∷ ls) zero x e = ap (λ b. cond b 1 0 + closing-count p ls) e
 count-set p (l ∷ ls) (suc i) x e = ap (λ n. cond (p l) 1 0 + n) (count-set p ls i x e)
-
-pub none-close : (t : ℕ) (ls : List Line) → closing-count (closes Nothing t) ls ≡ 0
-none-close t [] = refl
-none-close t (l ∷ ls) = let e = none-close t ls in omega (arith, e)
 
 closes-counted : (chosen : Selection) (t u w : ℕ) (l : Line) → closes chosen t (counted u w l) ≡ closes chosen t l
 closes-counted Nothing t u w l = refl

@@ -2,6 +2,7 @@ pub mod Turns
 pub mod Bounds
 pub mod Acting
 pub mod Places
+pub mod Nothing
 pub mod Fits
 pub mod Decided
 pub mod Overrides

@@ -4,7 +4,7 @@ use mathlib.Core.List.{List, [], _∷_, map}
 use mathlib.Core.Bool.{Bool, true, false, cond}
 use Prim.Native.Nat.{ℕ}
 use lib.Dec.{eqb}
-use lib.ListN.{length, replicate}
+use lib.ListN.{length, take, replicate}
 use Rattle.std.specs.declared.option.Option.{Option}
 use Rattle.std.specs.declared.option.Option.the-variants.{Some, None}
 use Rattle.entries.specs.declared.entry.Entry.{Entry}
@@ -17,9 +17,11 @@ use Rattle.entries.specs.Triggers.{qos, tariff-time, session-volume, line-volum
 use Rattle.session.specs.declared.answer.Due.the-variants.{Nothing as NotDue}
 use Rattle.session.specs.declared.event.Event.{Event}
 use Rattle.session.specs.declared.event.Event.the-variants.{Open as Opening, Start, Usage, Change, Finish}
+use Rattle.session.specs.declared.state.Line.{Line}
 use Rattle.session.specs.declared.thresholds.Thresholds.{Thresholds}
 use Rattle.session.specs.Answers.{Answer, refused, opened, reported, sent}
 use Rattle.session.specs.Laws.{Lawful}
+use Rattle.session.specs.State.{State, open-octets}
 use Rattle.session.specs.Steps.{Making, Fed, fed, seen, step, Run, run}
 
 abbrev pub key : ℕ → Option ℕ → ServiceKey
@@ -81,6 +83,10 @@ causes es = map (λ (e : Entry). e .cause) es
 abbrev pub counting : ℕ → List (Fed ServiceKey)
 counting n = call Opening 1 ∷ call (Start (key 10 None)) 1 ∷ call (Usage (key 10 None) n 0) 2 ∷ []
 
+-- the open octets of each line
+abbrev pub open-counts : State → List ℕ
+open-counts s = map (λ (l : Line). open-octets l) (s .lines)
+
 -- a line that so many changes of QoS close
 abbrev pub changes : ℕ → List (Fed ServiceKey)
 changes n = call Opening 1 ∷ call (Start (key 10 None)) 1 ∷ replicate n (call (Change qos) 2)
@@ -105,11 +111,14 @@ pub record Figures : Type 0 where
   pub flow-0 : flow-started 0 ≡ refused 4
   pub flow-64 : flow-started 64 ≡ refused 4
   pub below-limit : on-converged 0 2000 (counting 1999) .state .waiting ≡ []
-  pub at-limit : causes (on-converged 0 2000 (counting 2000) .state .waiting) ≡ (line-volume ∷ [])
+  pub still-open : open-counts (on-converged 0 2000 (counting 1999) .state) ≡ (1999 ∷ [])
+  pub at-limit : on-converged 0 2000 (counting 2000) .state .waiting ≡ (entry 4 line-volume 0 1 1 2 1310720 2000 0 ∷ [])
+  pub none-open : open-counts (on-converged 0 2000 (counting 2000) .state) ≡ (0 ∷ [])
   pub both-limits : causes (on-converged 2000 2000 (counting 2000) .taken) ≡ (0 ∷ session-volume ∷ session-volume ∷ [])
   pub tariff-stays : opened-under (record { trigger = tariff-time; switch = 2; category = 0; threshold = 0 }) ≡ opened 0 1
   pub waits : length (on-converged 0 0 (changes 96) .taken) ≡ 1
   pub sends : length (on-converged 0 0 (changes 97) .taken) ≡ 99
+  pub without-cause : take 2 (on-converged 0 0 (changes 97) .taken) ≡ (entry 1 0 0 0 1 1 7 0 0 ∷ entry 2 0 0 97 2 2 7 0 0 ∷ [])
   pub intake-2 : finished-at 2 ≡ refused 10
   pub intake-3 : finished-at 3 ≡ sent 2
 

@@ -55,6 +55,9 @@ pub(crate) fn count_closing(lines: &[Line], chosen: Selection, t: u32) -> usize
     ensures count { λ r. ⌜ r ≡ closing-count (closes chosen t) (now (lines .entry)) ⌝ }
     ensures most { λ r. ⌜ r ≤ length (now (lines .entry)) ⌝ }
 {
+    if let Selection::Nothing = chosen {
+        return 0;
+    }
     let mut n: usize = 0;
     for line in lines {
         if is_chosen(chosen, line, t) {

@@ -91,6 +91,9 @@ fn close_all(
     ensures longer { λ _. ⌜ vec-len (now (waiting .exit)) ≡ vec-len (now (waiting .entry)) + closing-count (closes chosen t) (vec-items (now (lines .entry))) ⌝ }
     ensures reserved { λ _. ⌜ vec-cap (now (waiting .exit)) ≡ vec-cap (now (waiting .entry)) ⌝ }
 {
+    if let Selection::Nothing = chosen {
+        return done;
+    }
     close_lines(lines, waiting, chosen, cause, period, done, t)
 }
 

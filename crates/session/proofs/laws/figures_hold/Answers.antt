@@ -11,11 +11,14 @@ returns c = record {
   flow-0 = refl;
   flow-64 = refl;
   below-limit = refl;
+  still-open = refl;
   at-limit = refl;
+  none-open = refl;
   both-limits = refl;
   tariff-stays = refl;
   waits = refl;
   sends = refl;
+  without-cause = refl;
   intake-2 = refl;
   intake-3 = refl;
 }
