@@ -1,0 +1,5 @@
+pub mod CodecLaws
+pub mod LayoutLaws
+pub mod GrowthLaws
+pub mod ReadingLaws
+pub mod JournalLaws
