@@ -10,12 +10,13 @@ use lib.ListN.{length, take, drop, getD}
 use lib.Dec.{leb}
 use Rattle.std.specs.declared.result.Result.{Result}
 use Rattle.std.specs.declared.result.Result.the-variants.{Ok, Err}
-use Rattle.std.proofs.shelf.Lists.{append-nil, length-append, length-drop, length-take-le, nil-from-length, at-drop-more}
-use Rattle.std.proofs.shelf.Tests.{and-parts, le-leb, leb-true}
+use Rattle.std.proofs.shelf.Lists.{append-nil, length-append, length-drop, length-take, length-take-le, take-take, take-all, nil-from-length, at-drop-more}
+use Rattle.std.proofs.shelf.Tests.{and-parts, le-leb, cases-lt, cases-order}
 use Rattle.std.proofs.shelf.Ways.{tells}
 use Rattle.entries.specs.declared.entry.Entry.{Entry}
 use Rattle.entries.specs.Entries.{initial, service-line, most-containers}
 use Rattle.entries.specs.Requests.{head-formed, container-formed, containers-formed, well-formed}
+use Rattle.entries.proofs.WrittenLaws.{take-min}
 use Rattle.entries.specs.Sequences.{begins-request, goes-on, due-after, begun-with, judge, requests-in, Requests, none, more, Begins, Stops-at, Judged}
 
 -- well-formed requests pass the test
@@ -270,6 +271,52 @@ stops-from es j h = stopped-stops es j (stopped es 0 0 0 j zero-le h)
 pub judged : (es : List Entry) (r : Result ℕ ℕ) → r ≡ requests-in es → Judged es r
 judged es (Ok q) e = requests-from es q (sym e)
 judged es (Err j) e = stops-from es j (sym e)
+
+-- and the only thing that they are
+
+begins-shorter : (es : List Entry) (n a b : ℕ) → a ≤ b → Begins n (take b es) → Begins n (take a es)
+begins-shorter es n a b h g = record {
+  count = g .count;
+  whole = g .whole;
+  formed = g .formed;
+  size = g .size;
+  same =
+      let k : length (take a es) ≤ length (take b es) = simp length-take (omega arith) in
+      sym (take-take (length (take a es)) (length (take b es)) (g .whole) k)
+      ∙ (ap (take (length (take a es))) (g .same)
+      ∙ (take-take (length (take a es)) b es (simp length-take (omega arith)) ∙ take-length a es));
+} where
+  -- a part of a list is as long as it is
+  take-length : (m : ℕ) (xs : List Entry) → take (length (take m xs)) xs ≡ take m xs
+  take-length m xs = take-min xs m (length (take m xs)) (simp length-take refl)
+
+requests-begin : {q : ℕ} {es : List Entry} → Requests q es → Begins (length es) (take (length es) es)
+requests-begin {q} {es} r = record {
+  count = q;
+  whole = es;
+  formed = r;
+  size = refl;
+  same = let k = take-all (length es) es (omega arith) in rw (k, k);
+}
+
+-- what the whole begins, each part of it begins
+begins-front : (es : List Entry) (a : ℕ) → Begins (length es) (take (length es) es) → Begins (length es) (take a es)
+begins-front es a g =
+    ⊎-elim (λ lt. begins-shorter es (length es) a (length es) (omega arith) g)
+    (λ le. subst (Begins (length es)) (take-all (length es) es (omega arith) ∙ sym (take-all a es le)) g)
+    (cases-lt a (length es))
+
+stops-once : (es : List Entry) (i : ℕ) → Stops-at i es → (r : Result ℕ ℕ) → Judged es r → Err i ≡ r
+stops-once es i s (Ok q) j = absurd (s .with-it (begins-front es (i + 1) (requests-begin j)))
+stops-once es i s (Err k) t =
+    ⊎-elim (ap Err)
+    (⊎-elim (λ lt. absurd (s .with-it (begins-shorter es (length es) (i + 1) k (omega arith) (t .before))))
+        (λ lt. absurd (t .with-it (begins-shorter es (length es) (k + 1) i (omega arith) (s .before)))))
+    (cases-order i k)
+
+pub judged-once : (es : List Entry) (s : Result ℕ ℕ) → Judged es s → s ≡ requests-in es
+judged-once es (Ok q) j = sym (judge-requests j 0 0 ∙ ap Ok (zero-add q))
+judged-once es (Err i) s = stops-once es i s (requests-in es) (judged es (requests-in es) refl)
 
 -- one entry of the test, by the verdict on it
 pub judge-more : (es : List Entry) (i due m left : ℕ) (d : Entry) (r : Bool) → i < length es → left ≡ length es - i - 1 → r ≡ goes-on due (getD es i d) left

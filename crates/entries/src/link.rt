@@ -19,6 +19,13 @@ impl<F> Link<F> {
         Link { below, up: true }
     }
 
+    // What is behind the link.
+    pub fn below(&self) -> &F
+        ensures { λ r. ⌜ now r ≡ now (self .entry) .below ⌝ }
+    {
+        &self.below
+    }
+
     // Tells the link that it is up, or down.
     pub fn set_up(&mut self, up: bool)
         ensures { λ _. ⌜ now (self .exit) ≡ record { below = now (self .entry) .below; up = up } ⌝ }

@@ -1,5 +1,7 @@
 // Sequences of requests: whether entries are well-formed requests, one after the other.
 ghost use mathlib.Core.Path.{_≡_};
+ghost use Prim.Native.Nat.{ℕ};
+ghost use Rattle.std.specs.declared.result.Result.{Result as Outcome};
 ghost use Rattle.entries.specs.Sequences.{begins-request, goes-on, due-after, requests-in, Judged};
 use crate::entry::*;
 use crate::request::*;
@@ -34,6 +36,7 @@ pub fn due_after(due: u32, e: &Entry) -> u32
 pub fn count_requests(entries: &[Entry]) -> Result<usize, usize>
     ensures value { λ r. ⌜ r ≡ requests-in (now (entries .entry)) ⌝ }
     ensures meaning { λ r. ⌜ Judged (now (entries .entry)) r ⌝ }
+    ensures only { λ r. ⌜ ((s : Outcome ℕ ℕ) → Judged (now (entries .entry)) s → s ≡ r) ⌝ }
 {
     let mut due = 0;
     let mut begun = 0;

@@ -4,7 +4,7 @@ use lib.ListN.{getD}
 use Rattle.std.proofs.shelf.Lists.{at-drop-all}
 use Rattle.std.specs.declared.result.Result.the-variants.{Ok, Err}
 use Rattle.entries.specs.Sequences.{begun-with, judge, requests-in}
-use Rattle.entries.proofs.SequenceLaws.{judged, judge-more, begun-head, begun-container, begun-more}
+use Rattle.entries.proofs.SequenceLaws.{judged, judged-once, judge-more, begun-head, begun-container, begun-more}
 use Rattle.entries.proofs.sequence.count_requests.Needs as need
 use Rattle.entries.proofs.sequence.count_requests.Needs.{then-due-eq0, else-due-eq0}
 
@@ -14,7 +14,7 @@ returns-then-not-goes-on c =
     let e : Err (c .loop-i .i) ≡ requests-in es =
     sym (judge-more es (c .loop-i .i) (c .loop-i .due) (c .loop-i .begun) _ _ _ (c .loop-i-test .taken) refl (c .if-not-goes-on .ensures tt))
     ∙ c .loop-i .inv .1 in
-    record { value = e; meaning = judged es (Err (c .loop-i .i)) e }
+    record { value = e; meaning = judged es (Err (c .loop-i .i)) e; only = λ s j. judged-once es s j ∙ sym e }
 
 pub loop-i-again : need.loop-i-again
 loop-i-again c =
@@ -32,4 +32,4 @@ returns c =
     let es = c .args .entries .now in
     let e : Ok (c .loop-i .begun) ≡ requests-in es =
     sym (at-drop-all (judge (c .loop-i .i) (c .loop-i .due) (c .loop-i .begun)) es (c .loop-i .i) (c .loop-i-test .left)) ∙ c .loop-i .inv .1 in
-    record { value = e; meaning = judged es (Ok (c .loop-i .begun)) e }
+    record { value = e; meaning = judged es (Ok (c .loop-i .begun)) e; only = λ s j. judged-once es s j ∙ sym e }
