@@ -311,7 +311,7 @@ stops-once es i s (Ok q) j = absurd (s .with-it (begins-front es (i + 1) (reques
 stops-once es i s (Err k) t =
     ⊎-elim (ap Err)
     (⊎-elim (λ lt. absurd (s .with-it (begins-shorter es (length es) (i + 1) k (omega arith) (t .before))))
-        (λ lt. absurd (t .with-it (begins-shorter es (length es) (k + 1) i (omega arith) (s .before)))))
+    (λ lt. absurd (t .with-it (begins-shorter es (length es) (k + 1) i (omega arith) (s .before)))))
     (cases-order i k)
 
 pub judged-once : (es : List Entry) (s : Result ℕ ℕ) → Judged es s → s ≡ requests-in es

@@ -33,16 +33,8 @@ use Rattle.journal.specs.Reading.{read}
 use Rattle.journal.specs.Journals.{bytes-of, entry-count, places-left, Grown, unmade-journal, New-journal, Used, made, took, reading, Reads-back}
 use Rattle.journal.proofs.CodecLaws.{words}
 use Rattle.journal.proofs.LayoutLaws.{length-header, header-words, length-entries}
+use Rattle.journal.proofs.SoundLaws.{Sound, read-sound}
 use Rattle.journal.proofs.GrowthLaws.{length-grown, entries-grown, bytes-grown}
-
--- bytes of a journal that has these entries, in q requests
-record Sound (bs : List ℕ) (n q : ℕ) (es : List Entry) : Type 0 where
-  pub book : book-in n bs ≡ es
-  pub size : n ≡ length es
-  pub held : take (entry-offset n) bs ≡ journal-bytes q es
-  pub formed : Requests q es
-  pub within : entry-offset n ≤ length bs
-  pub small : length bs ≤ most-bytes
 
 sound-made : (lent : List ℕ) → header-size ≤ length lent → length lent ≤ most-bytes → Sound (written lent 0 (header-bytes 0 0)) 0 0 []
 sound-made lent long small =
@@ -71,31 +63,6 @@ sound-grown bs n q es h cs s w room fit =
       within = omega (arith, l);
       small = omega (arith, l, s .small);
     }
-
--- the numbers of the header are read back
-sound-words : (bs : List ℕ) (n q : ℕ) (es : List Entry) → Sound bs n q es → words 0 header-widths bs ≡ header-fields n q
-sound-words bs n q es s =
-    let few : q ≤ n = omega (arith, requests-few (s .formed), s .size) in
-    let fit : Fit header-widths (header-fields n q) =
-    (omega (arith, s .within, s .small), (omega (arith, s .within, s .small), (omega (arith, s .within, s .small), (omega arith, tt)))) in
-    let k : header-size ≤ entry-offset n = omega arith in
-    let e = s .held ∙ ap (λ m. header-bytes m q ++ all-bytes es) (sym (s .size)) in
-    header-words bs n q fit
-    (sym (take-take header-size (entry-offset n) bs k) ∙ (ap (take header-size) e ∙ take-at (header-bytes n q) (all-bytes es) header-size (length-header n q)))
-
--- reading sound bytes gives their entries
-read-sound : (bs : List ℕ) (n q : ℕ) (es : List Entry) → Sound bs n q es → read bs ≡ Ok es
-unfolding read
-read-sound bs n q es s =
-    let w = sound-words bs n q es s in
-    let w₀ : word entries-at bs ≡ n = ap (λ x. getD x 0 0) w in
-    let w₁ : word requests-at bs ≡ q = ap (λ x. getD x 1 0) w in
-    let w₂ : word free-at bs ≡ entry-offset n = ap (λ x. getD x 2 0) w in
-    let w₃ : word spare-at bs ≡ spare = ap (λ x. getD x 3 0) w in
-    let c : requests-in es ≡ Ok q = judge-requests (s .formed) 0 0 ∙ ap Ok (zero-add q) in
-    let within : entry-offset n ≤ length bs = s .within in
-    let small : length bs ≤ most-bytes = s .small in
-    rw (w₀, w₁, w₂, w₃, s .book, c) (grind (arith, tells))
 
 -- what the making and the taking ask of numbers
 

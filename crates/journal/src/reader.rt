@@ -1,10 +1,14 @@
 // A reader of a journal's bytes.
 ghost use mathlib.Core.Path.{_≡_};
+ghost use mathlib.Core.List.{List};
 ghost use Prim.Native.Nat.{ℕ, _≤_};
 ghost use lib.ListN.{length, drop};
+ghost use Rattle.std.specs.shelf.Lists.{All};
+ghost use Rattle.std.specs.declared.result.Result.the-variants.{Ok as Shown};
+ghost use Rattle.entries.specs.declared.entry.Entry.{Entry as Row};
 ghost use Rattle.entries.specs.Sequences.{requests-in};
-ghost use Rattle.journal.specs.Layout.{header-size, most-bytes, entry-offset, entries-in};
-ghost use Rattle.journal.specs.Reading.{read, Meant};
+ghost use Rattle.journal.specs.Layout.{header-size, entry-offset, entries-in, Entry-fits};
+ghost use Rattle.journal.specs.Reading.{read, Meant, Journal-of};
 ghost use Rattle.journal.specs.Readers.{shown, answer, entry-at};
 use crate::codec::*;
 use crate::fault::*;
@@ -71,6 +75,7 @@ impl<'a> Reader<'a> {
     pub fn new(bytes: &'a [u8]) -> Result<Reader<'a>, Fault>
         ensures value { λ r. ⌜ answer r ≡ read (now (bytes .entry)) ⌝ }
         ensures meaning { λ r. ⌜ Meant (now (bytes .entry)) (answer r) ⌝ }
+        ensures all { λ r. ⌜ ((es : List Row) → All Entry-fits es → Journal-of (now (bytes .entry)) es → answer r ≡ Shown es) ⌝ }
     {
         open_bytes(bytes)
     }
