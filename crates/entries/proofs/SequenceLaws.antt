@@ -31,7 +31,7 @@ judge-containers (x ∷ cs) es i due m e h =
 formed-number : (h : Entry) (cs : List Entry) → well-formed h cs ≡ true → h .number ≡ length cs
 formed-number h cs w = grind (arith, tells)
 
-formed-containers : (h : Entry) (cs : List Entry) → well-formed h cs ≡ true → containers-formed cs ≡ true
+pub formed-containers : (h : Entry) (cs : List Entry) → well-formed h cs ≡ true → containers-formed cs ≡ true
 formed-containers h cs w = grind (arith, tells)
 
 formed-begins : (h : Entry) (cs es : List Entry) → well-formed h cs ≡ true → begins-request h (length (cs ++ es)) ≡ true

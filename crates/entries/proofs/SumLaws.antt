@@ -1,5 +1,5 @@
 -- Sums over a book: one entry more, and their bound.
-use mathlib.Core.Path.{_≡_, refl, sym, _∙_, ap}
+use mathlib.Core.Path.{_≡_, sym, _∙_, ap}
 use mathlib.Core.List.{List, [], _∷_}
 use mathlib.Core.Bool.{Bool, true, false, cond}
 use Prim.Native.Nat.{ℕ, _+_, _*_, _<_, _≤_}
@@ -20,6 +20,7 @@ use Rattle.entries.specs.Octets.{Direction, octets-of, counts-for, in-book}
 use Rattle.entries.specs.Requests.{container-formed, containers-formed, well-formed}
 use Rattle.entries.specs.Sequences.{Requests, none, more, Judged}
 use Rattle.entries.specs.Sums.{Within}
+use Rattle.entries.proofs.SequenceLaws.{formed-containers}
 
 -- what stands where no entry does
 abbrev pub blank : Entry
@@ -56,9 +57,6 @@ containers-within [] w = tt
 containers-within (c ∷ cs) w =
     let p = and-parts (container-formed c) (containers-formed cs) w in
     (container-within c (p .0), containers-within cs (p .1))
-
-formed-containers : (h : Entry) (cs : List Entry) → well-formed h cs ≡ true → containers-formed cs ≡ true
-formed-containers h cs w = grind (arith, tells)
 
 pub requests-within : {q : ℕ} {es : List Entry} → Requests q es → All Within es
 requests-within none = tt

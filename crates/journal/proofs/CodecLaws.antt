@@ -1,8 +1,8 @@
 -- Numbers in a row as bytes: written, read back, and written again.
-use mathlib.Core.Path.{_≡_, refl, sym, _∙_, ap, subst}
+use mathlib.Core.Path.{_≡_, refl, sym, _∙_, ap}
 use mathlib.Core.List.{List, [], _∷_, _++_, append-assoc, map}
 use Prim.Native.Nat.{ℕ, zero, suc, _+_, _*_, _/_, _%_, _^_, _<_, _≤_}
-use native.Mathlib.Nat.{div-one, mod-one, mod-lt, mod-eq-of-lt, one-le-pow, pow-succ', pow-suc, mul-assoc, add-comm, add-mul-div-right, add-mul-mod-self-right}
+use native.Mathlib.Nat.{div-one, mod-one, mod-eq-of-lt, one-le-pow, pow-succ', mul-assoc, add-comm, add-mul-div-right, add-mul-mod-self-right}
 use native.Mathlib.Omega.{arith}
 use lib.Arith.{mod-mul, digits-lt, digits-div}
 use lib.ListN.{length, take, drop, getD, length-take}

@@ -3,36 +3,33 @@ use mathlib.Core.Path.{_≡_, refl, sym, _∙_, ap, subst}
 use mathlib.Core.List.{List, [], _∷_, _++_}
 use mathlib.Core.Bool.{Bool, true, false, cond, _&&_}
 use mathlib.Core.Logic.{⊎-elim}
-use Prim.Native.Nat.{ℕ, zero, suc, _+_, _*_, _≤_}
-use native.Mathlib.Nat.{zero-add}
+use Prim.Native.Nat.{ℕ, suc, _+_, _*_, _≤_}
 use native.Mathlib.Omega.{arith}
 use lib.Dec.{leb}
-use lib.ListN.{length, take, drop, getD, length-append}
+use lib.ListN.{length, take, length-append}
 use Rattle.std.specs.shelf.Lists.{All}
 use Rattle.std.specs.declared.option.Option.{Option}
 use Rattle.std.specs.declared.option.Option.the-variants.{Some, None}
 use Rattle.std.specs.declared.result.Result.{Result}
-use Rattle.std.specs.declared.result.Result.the-variants.{Ok, Err}
-use Rattle.std.proofs.shelf.Lists.{append-nil, take-at, take-take}
+use Rattle.std.specs.declared.result.Result.the-variants.{Ok}
+use Rattle.std.proofs.shelf.Lists.{append-nil}
 use Rattle.std.proofs.shelf.Tests.{true≢false, cases-bool}
 use Rattle.std.proofs.shelf.Ways.{tells}
 use Rattle.entries.specs.declared.entry.Entry.{Entry}
 use Rattle.entries.specs.declared.making.Unmade.{Unmade}
 use Rattle.entries.specs.declared.taker.Override.{Override}
 use Rattle.entries.specs.Requests.{well-formed}
-use Rattle.entries.specs.Sequences.{requests-in, Requests, none}
+use Rattle.entries.specs.Sequences.{Requests, none}
 use Rattle.entries.specs.Written.{written}
-use Rattle.entries.proofs.SequenceLaws.{judge-requests, requests-more, requests-few}
+use Rattle.entries.proofs.SequenceLaws.{requests-more}
 use Rattle.entries.proofs.WrittenLaws.{take-written, length-written}
 use Rattle.journal.specs.declared.fault.Fault.{Fault}
 use Rattle.journal.specs.declared.journal.Journal.{Journal}
-use Rattle.journal.specs.Codec.{Fit}
-use Rattle.journal.specs.Layout.{entry-size, Entry-fits, header-size, header-widths, header-fields, header-bytes, spare, most-bytes, entry-offset}
-use Rattle.journal.specs.Layout.{entries-at, requests-at, free-at, spare-at, word, all-bytes, journal-bytes, book-in, room-for, grown}
+use Rattle.journal.specs.Layout.{entry-size, Entry-fits, header-size, header-bytes, most-bytes, entry-offset}
+use Rattle.journal.specs.Layout.{journal-bytes, book-in, room-for, grown}
 use Rattle.journal.specs.Reading.{read}
-use Rattle.journal.specs.Journals.{bytes-of, entry-count, places-left, Grown, unmade-journal, New-journal, Used, made, took, reading, Reads-back}
-use Rattle.journal.proofs.CodecLaws.{words}
-use Rattle.journal.proofs.LayoutLaws.{length-header, header-words, length-entries}
+use Rattle.journal.specs.Journals.{bytes-of, entry-count, Grown, unmade-journal, New-journal, Used, made, took, reading, Reads-back}
+use Rattle.journal.proofs.LayoutLaws.{length-header}
 use Rattle.journal.proofs.SoundLaws.{Sound, read-sound}
 use Rattle.journal.proofs.GrowthLaws.{length-grown, entries-grown, bytes-grown}
 

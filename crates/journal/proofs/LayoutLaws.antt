@@ -6,11 +6,11 @@ use native.Mathlib.Nat.{zero-add, suc-add, add-comm, mul-zero, mul-suc, mul-div-
 use native.Mathlib.Omega.{arith}
 use lib.ListN.{length, take, drop, getD}
 use lib.Seq.{take-add}
-use Rattle.std.specs.shelf.Lists.{All, joined}
+use Rattle.std.specs.shelf.Lists.{All}
 use Rattle.std.specs.shelf.Maps.{nth}
 use Rattle.std.specs.declared.option.Option.the-variants.{Some}
 use Rattle.std.proofs.shelf.Elements.{all-take, all-drop}
-use Rattle.std.proofs.shelf.Lists.{drop-at, take-take, drop-take, drop-drop, length-append, length-take, length-take-le, length-drop, append-nil, take-more}
+use Rattle.std.proofs.shelf.Lists.{drop-at, take-take, drop-take, drop-drop, length-append, length-take-le, length-drop, append-nil, take-more}
 use Rattle.entries.specs.declared.entry.Entry.{Entry}
 use Rattle.entries.specs.Written.{written}
 use Rattle.entries.proofs.WrittenLaws.{written-next}

@@ -1,8 +1,8 @@
 -- What a reader answers, and what its answer says.
-use mathlib.Core.Path.{_≡_, refl, sym, _∙_, ap}
-use mathlib.Core.List.{List, [], _∷_, _++_}
-use mathlib.Core.Bool.{Bool, true, false, cond, _&&_}
-use Prim.Native.Nat.{ℕ, zero, suc, _+_, _-_, _*_, _<_, _≤_}
+use mathlib.Core.Path.{_≡_, refl, _∙_, ap}
+use mathlib.Core.List.{List}
+use mathlib.Core.Bool.{Bool, true, cond}
+use Prim.Native.Nat.{ℕ, suc, _+_, _-_, _*_, _<_, _≤_}
 use native.Mathlib.Omega.{arith}
 use lib.Dec.{leb, eqb}
 use lib.ListN.{length, take, drop}
@@ -16,10 +16,9 @@ use Rattle.entries.specs.declared.entry.Entry.{Entry}
 use Rattle.entries.specs.Sequences.{goes-on, due-after, begun-with, judge, requests-in}
 use Rattle.entries.proofs.SequenceLaws.{judged}
 use Rattle.journal.specs.declared.fault.Fault.{Fault}
-use Rattle.journal.specs.declared.fault.Fault.the-variants.{Length, FreeOffset, Spare, Form, RequestCount}
-use Rattle.journal.specs.Layout.{entry-size, entry-of, header-size, header-widths, header-fields, header-bytes, spare, most-bytes}
-use Rattle.journal.specs.Layout.{entries-at, requests-at, free-at, spare-at, entry-offset, entries-by, all-bytes, journal-bytes, word, book-in}
-use Rattle.journal.specs.Reading.{sized, ended, spared, entries-told, counted, read, Journal-of, Framed, Wrong, Meant}
+use Rattle.journal.specs.Layout.{entry-size, header-size, spare, most-bytes}
+use Rattle.journal.specs.Layout.{entries-at, requests-at, free-at, spare-at, entry-offset, entries-by, journal-bytes, word}
+use Rattle.journal.specs.Reading.{sized, ended, spared, entries-told, counted, read, Framed, Meant}
 use Rattle.journal.proofs.CodecLaws.{Bytes}
 use Rattle.journal.proofs.LayoutLaws.{length-by, length-entries, header-bytes-of, all-bytes-of}
 

@@ -1,14 +1,13 @@
 -- Bytes that are the header and the encoding of well-formed requests are read back.
 use mathlib.Core.Path.{_≡_, refl, sym, _∙_, ap}
-use mathlib.Core.List.{List, [], _∷_, _++_}
-use mathlib.Core.Bool.{true}
+use mathlib.Core.List.{List, [], _++_}
 use Prim.Native.Nat.{ℕ, _+_, _*_, _≤_}
 use native.Mathlib.Nat.{zero-add}
 use native.Mathlib.Omega.{arith}
 use lib.Dec.{leb}
 use lib.ListN.{length, take, drop, getD}
 use Rattle.std.specs.shelf.Lists.{All}
-use Rattle.std.specs.declared.result.Result.the-variants.{Ok, Err}
+use Rattle.std.specs.declared.result.Result.the-variants.{Ok}
 use Rattle.std.proofs.shelf.Lists.{append-nil, take-at, drop-at, take-take, drop-take, length-append, length-take}
 use Rattle.std.proofs.shelf.Tests.{and-parts, leb-true}
 use Rattle.std.proofs.shelf.Ways.{tells}
@@ -18,7 +17,7 @@ use Rattle.entries.proofs.SequenceLaws.{judge-requests, requests-few}
 use Rattle.journal.specs.Codec.{Fit}
 use Rattle.journal.specs.Layout.{entry-size, Entry-fits, header-size, header-widths, header-fields, header-bytes, spare, most-bytes, entry-offset}
 use Rattle.journal.specs.Layout.{entries-at, requests-at, free-at, spare-at, word, all-bytes, journal-bytes, entries-in, book-in}
-use Rattle.journal.specs.Reading.{sized, read, Journal-of}
+use Rattle.journal.specs.Reading.{read, Journal-of}
 use Rattle.journal.proofs.CodecLaws.{words}
 use Rattle.journal.proofs.LayoutLaws.{length-header, length-all, header-words, entries-take, entries-of-all}
 

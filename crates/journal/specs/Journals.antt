@@ -91,3 +91,7 @@ pub record Reads-back (j : Journal) (requests : ℕ) (es : List Entry) (r : Resu
   pub entries : r ≡ Ok es
   pub book : es ≡ entries-of j
   pub bytes : j .live ≡ true → take (entry-offset (length es)) (bytes-of j) ≡ journal-bytes requests es
+
+-- so it is whatever a journal took since its making
+abbrev pub Faithful : Journal → Result (List Entry) Fault → Type 0
+Faithful j r = (requests : ℕ) (es : List Entry) → Used j requests es → Reads-back j requests es r

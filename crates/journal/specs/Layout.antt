@@ -41,9 +41,13 @@ entry-of bs = of-fields (unpack entry-widths bs)
 unfoldable pub Entry-fits : Entry → Type 0
 Entry-fits e = Fit entry-widths (fields e)
 
+-- the bytes of a number of the header
+abbrev pub word-size : ℕ
+word-size = 4
+
 -- the widths of the header: entries, requests, free offset, spare
 abbrev pub header-widths : List ℕ
-header-widths = 4 ∷ 4 ∷ 4 ∷ 4 ∷ []
+header-widths = word-size ∷ word-size ∷ word-size ∷ word-size ∷ []
 
 abbrev pub header-size : ℕ
 header-size = total header-widths
@@ -104,7 +108,7 @@ listed bs = listed-by entry-size entry-of bs
 
 -- a number of the header, by its place
 abbrev pub word : (place : ℕ) → List ℕ → ℕ
-word place bs = value (take 4 (drop place bs))
+word place bs = value (take word-size (drop place bs))
 
 -- the first n entries behind the header
 abbrev pub book-in : (n : ℕ) → List ℕ → List Entry

@@ -5,13 +5,14 @@ use mathlib.Core.Path.{_≡_}
 use Prim.Native.Nat.{ℕ}
 use lib.Dec.{leb, eqb}
 use lib.ListN.{length, take}
+use Rattle.std.specs.shelf.Lists.{All}
 use Rattle.std.specs.declared.result.Result.{Result}
 use Rattle.std.specs.declared.result.Result.the-variants.{Ok, Err}
 use Rattle.entries.specs.declared.entry.Entry.{Entry}
 use Rattle.entries.specs.Sequences.{requests-in, Requests, Stops-at}
 use Rattle.journal.specs.declared.fault.Fault.{Fault}
 use Rattle.journal.specs.declared.fault.Fault.the-variants.{Length, FreeOffset, Spare, Form, RequestCount}
-use Rattle.journal.specs.Layout.{header-size, most-bytes, spare, entries-at, requests-at, free-at, spare-at, entry-offset, word, book-in, journal-bytes}
+use Rattle.journal.specs.Layout.{header-size, most-bytes, spare, entries-at, requests-at, free-at, spare-at, entry-offset, word, book-in, journal-bytes, Entry-fits}
 
 -- the bytes are neither too few nor too many
 abbrev pub sized : List ℕ → Bool
@@ -83,3 +84,7 @@ Wrong bs RequestCount = Miscounted bs
 abbrev pub Meant : List ℕ → Result (List Entry) Fault → Type 0
 Meant bs (Ok es) = Journal-of bs es
 Meant bs (Err f) = Wrong bs f
+
+-- bytes that are a journal of entries whose fields fit their widths are accepted, and show these entries
+abbrev pub Complete : List ℕ → Result (List Entry) Fault → Type 0
+Complete bs r = (es : List Entry) → All Entry-fits es → Journal-of bs es → r ≡ Ok es

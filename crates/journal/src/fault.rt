@@ -55,6 +55,8 @@ impl PastEnd {
     pub fn number(self) -> u8
         ensures { λ r. ⌜ r ≡ past-end-number ⌝ }
     {
-        4
+        match self {
+            PastEnd => 4,
+        }
     }
 }

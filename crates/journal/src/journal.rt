@@ -1,11 +1,6 @@
 // A journal: a charging function that writes requests into lent bytes.
 ghost use mathlib.Core.Path.{_≡_};
-ghost use mathlib.Core.List.{List, _∷_, _++_};
-ghost use mathlib.Core.Bool.{true, false, cond};
-ghost use Prim.Native.Nat.{ℕ};
-ghost use Rattle.std.specs.Results.{isOk};
-ghost use Rattle.entries.specs.declared.entry.Entry.{Entry as Row};
-ghost use Rattle.journal.specs.Journals.{entries-of, places-left, overrides-of, Grown, unmade-journal, New-journal, Used, reading, Reads-back};
+ghost use Rattle.journal.specs.Journals.{entries-of, places-left, overrides-of, Grown, unmade-journal, New-journal, reading, Faithful};
 ghost use Rattle.journal.specs.Readers.{answer};
 use crate::fault::*;
 use crate::layout::*;
@@ -71,7 +66,7 @@ impl<'a> Journal<'a> {
     // A reader of the entries taken.
     pub fn reader(&self) -> Result<Reader<'_>, Fault>
         ensures value { λ r. ⌜ answer r ≡ reading (now (self .entry)) ⌝ }
-        ensures back { λ r. ⌜ ((q : ℕ) (es : List Row) → Used (now (self .entry)) q es → Reads-back (now (self .entry)) q es (answer r)) ⌝ }
+        ensures back { λ r. ⌜ Faithful (now (self .entry)) (answer r) ⌝ }
     {
         if !self.live {
             return Ok(Reader { body: &[] });

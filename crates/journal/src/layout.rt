@@ -45,7 +45,8 @@ const UPLINK_AT: usize = 24;
 
 const DOWNLINK_AT: usize = 32;
 
-// Where the entry of an index begins; for the number of entries, the free offset.
+// Where the entry of an index begins; for the number of entries, the free offset. Two 32-bit counts added up are within
+// its reach.
 pub(crate) fn entry_offset(index: usize) -> usize
     requires { ⌜ index < 2 ^ 33 ⌝ }
     ensures { λ r. ⌜ r ≡ entry-offset index ⌝ }

@@ -1,14 +1,10 @@
 // A reader of a journal's bytes.
 ghost use mathlib.Core.Path.{_≡_};
-ghost use mathlib.Core.List.{List};
-ghost use Prim.Native.Nat.{ℕ, _≤_};
+ghost use Prim.Native.Nat.{_≤_};
 ghost use lib.ListN.{length, drop};
-ghost use Rattle.std.specs.shelf.Lists.{All};
-ghost use Rattle.std.specs.declared.result.Result.the-variants.{Ok as Shown};
-ghost use Rattle.entries.specs.declared.entry.Entry.{Entry as Row};
 ghost use Rattle.entries.specs.Sequences.{requests-in};
-ghost use Rattle.journal.specs.Layout.{header-size, entry-offset, entries-in, Entry-fits};
-ghost use Rattle.journal.specs.Reading.{read, Meant, Journal-of};
+ghost use Rattle.journal.specs.Layout.{header-size, entry-offset, entries-in};
+ghost use Rattle.journal.specs.Reading.{read, Meant, Complete};
 ghost use Rattle.journal.specs.Readers.{shown, answer, entry-at};
 use crate::codec::*;
 use crate::fault::*;
@@ -75,7 +71,7 @@ impl<'a> Reader<'a> {
     pub fn new(bytes: &'a [u8]) -> Result<Reader<'a>, Fault>
         ensures value { λ r. ⌜ answer r ≡ read (now (bytes .entry)) ⌝ }
         ensures meaning { λ r. ⌜ Meant (now (bytes .entry)) (answer r) ⌝ }
-        ensures all { λ r. ⌜ ((es : List Row) → All Entry-fits es → Journal-of (now (bytes .entry)) es → answer r ≡ Shown es) ⌝ }
+        ensures complete { λ r. ⌜ Complete (now (bytes .entry)) (answer r) ⌝ }
     {
         open_bytes(bytes)
     }

@@ -1,6 +1,4 @@
 use mathlib.Core.Path.{_≡_, refl, sym, _∙_}
-use Prim.Native.Nat.{ℕ}
-use lib.ListN.{getD}
 use Rattle.std.proofs.shelf.Lists.{at-drop-all}
 use Rattle.std.specs.declared.result.Result.the-variants.{Ok, Err}
 use Rattle.entries.specs.Sequences.{begun-with, judge, requests-in}

@@ -1,5 +1,5 @@
 use mathlib.Core.Path.{_≡_}
-use Prim.Native.Nat.{_+_, _-_, _*_, _≤_}
+use Prim.Native.Nat.{_-_, _≤_}
 use lib.ListN.{drop}
 use Rattle.entries.specs.Sequences.{judge, requests-in}
 use Rattle.journal.specs.Layout.{header-size, entry-offset, entries-in}

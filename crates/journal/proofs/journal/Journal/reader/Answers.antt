@@ -1,7 +1,5 @@
-use mathlib.Core.Path.{_≡_, sym, _∙_}
-use Rattle.std.specs.declared.result.Result.the-variants.{Ok}
+use mathlib.Core.Path.{sym, _∙_}
 use Rattle.std.proofs.shelf.Tests.{cond-true, cond-false}
-use Rattle.journal.specs.Journals.{reading}
 use Rattle.journal.proofs.JournalLaws.{reads-back}
 use Rattle.journal.proofs.journal.Journal.reader.Needs as need
 

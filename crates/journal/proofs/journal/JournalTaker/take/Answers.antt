@@ -1,11 +1,11 @@
 use mathlib.Core.Path.{_≡_, refl, sym, _∙_, ap}
 use mathlib.Core.List.{_∷_}
-use Prim.Native.Nat.{_+_, _*_, _≤_}
+use Prim.Native.Nat.{_+_, _≤_}
 use native.Mathlib.Omega.{arith}
-use lib.ListN.{length, drop}
+use lib.ListN.{length}
 use Rattle.std.proofs.shelf.Ways.{tells}
 use Rattle.std.proofs.shelf.Tests.{true≢false}
-use Rattle.journal.specs.Layout.{entry-size, header-size, entry-offset, entries-in, book-in, grown}
+use Rattle.journal.specs.Layout.{book-in}
 use Rattle.journal.specs.Journals.{entry-count, places-left}
 use Rattle.journal.proofs.GrowthLaws.{entries-grown}
 use Rattle.journal.proofs.JournalLaws.{room-fits}

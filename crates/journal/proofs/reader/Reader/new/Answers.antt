@@ -13,5 +13,5 @@ returns c = record {
   meaning =
       answer-meant (c .args .bytes .now) (all-from-getD (λ b. b < 256) (c .args .bytes .now) 0 (λ i l. omega (arith, c .typed .bytes i)))
       (answer (c .open-bytes .result)) (c .open-bytes .ensures);
-  all = λ es fit g. c .open-bytes .ensures ∙ journal-read (c .args .bytes .now) es fit g;
+  complete = λ es fit g. c .open-bytes .ensures ∙ journal-read (c .args .bytes .now) es fit g;
 }
