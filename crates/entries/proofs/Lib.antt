@@ -1,3 +1,5 @@
 pub mod WrittenLaws
+pub mod SequenceLaws
+pub mod SumLaws
 pub mod Profiles
 pub mod Lent

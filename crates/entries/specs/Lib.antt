@@ -3,7 +3,9 @@ pub mod Triggers
 pub mod Keys
 pub mod Columns
 pub mod Requests
+pub mod Sequences
+pub mod Octets
+pub mod Sums
 pub mod Makings
 pub mod Written
 pub mod Books
-pub mod Octets

@@ -1,8 +1,11 @@
 pub mod book;
 pub mod entry;
 pub mod key;
+pub mod link;
 pub mod making;
 pub mod method;
 pub mod request;
+pub mod sequence;
+pub mod sum;
 pub mod taker;
 pub mod trigger;

@@ -17,12 +17,12 @@ pub struct Input {
 pub struct Unreadable;
 
 impl Input {
-    pub fn new(heap: Global, stdin: Stdin) -> Result<Input, Unreadable> {
-        Ok(Input {
+    pub fn new(heap: Global, stdin: Stdin) -> Input {
+        Input {
             reader: BufReader::new(stdin),
             line: String::new(heap),
             number: 0,
-        })
+        }
     }
 
     // Reads the next line; false at the end of the input.

@@ -77,3 +77,41 @@ fn play_on(
         Err(stop) => Err(Ended::Stopped(stop)),
     }
 }
+
+fn run(rt: &LibcRuntime, input: &mut Input) -> Result<(), Ended> {
+    let setup = match read_setup(rt, input) {
+        Ok(setup) => setup,
+        Err(stop) => return Err(Ended::Stopped(stop)),
+    };
+    let Some(places) = setup.places else {
+        return Ok(());
+    };
+    let asked = (places as usize).min(MOST_ENTRIES + 1);
+    let Ok(mut table) = vec![in rt.alloc(); BLANK_ENTRY; asked] else {
+        return Err(Ended::Stopped(Stop::Memory));
+    };
+    let made = Book::new(table.as_mut_slice(), setup.overrides.as_slice());
+    let answer = Answer::of_book(places_refused(made.refused, places));
+    if let Err(stop) = say(rt, "book", answer) {
+        return Err(Ended::Stopped(stop));
+    }
+    let mut link = Link::new(made.value);
+    play_on(rt, input, setup.session, &mut link)
+}
+
+// A slip that is left goes out with the error, since nobody may let it go.
+fn main(rt: LibcRuntime) -> Result<(), Ended> {
+    let mut input = Input::new(rt.alloc(), rt.stdin());
+    let result = run(&rt, &mut input);
+    if let Err(Ended::Stopped(stop)) = result {
+        let number = input.number;
+        let _ = match stop {
+            Stop::Line(wrong) => eprintln!(rt, "line {number}: {}", wrong.text()),
+            Stop::Input => eprintln!(rt, "line {number}: the input cannot be read"),
+            Stop::Output => eprintln!(rt, "the output cannot be written"),
+            Stop::Memory => eprintln!(rt, "no memory"),
+        };
+        return Err(Ended::Stopped(stop));
+    }
+    result
+}

@@ -1,0 +1,6 @@
+mod codec;
+pub mod fault;
+pub mod journal;
+pub mod layout;
+pub mod reader;
+mod writing;
