@@ -26,7 +26,10 @@ impl Answer {
 
     // Whether the call was accepted.
     pub fn is_accepted(&self) -> bool {
-        !matches!(self, Answer::Refused(_) | Answer::RefusedAt(_, _) | Answer::NoSlip)
+        !matches!(
+            self,
+            Answer::Refused(_) | Answer::RefusedAt(_, _) | Answer::NoSlip
+        )
     }
 
     // Of a book's making.

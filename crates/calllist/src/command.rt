@@ -3,6 +3,7 @@ use crate::key::*;
 use crate::words::*;
 use entries::taker::Override;
 use session::event::Event;
+use session::event::EventClone;
 use session::thresholds::Thresholds;
 
 #[derive(Clone, Copy)]
@@ -93,7 +94,7 @@ pub struct Timed<K> {
     pub time: u32,
 }
 
-fn timed<K>(event: Event<K>, words: &Words, at: usize) -> Result<Timed<K>, Wrong>
+fn at_time<K>(event: Event<K>, words: &Words, at: usize) -> Result<Timed<K>, Wrong>
 where
     K: Copy,
 {
@@ -107,25 +108,25 @@ fn read_keyed<K: ReadKey>(words: &Words) -> Result<Timed<K>, Wrong> {
     let key = K::read(words, 1)?;
     let next = K::words().saturating_add(1);
     match words.at(0) {
-        "start" => timed(Event::Start(key), words, next),
-        "end" => timed(Event::End(key), words, next),
+        "start" => at_time(Event::Start(key), words, next),
+        "end" => at_time(Event::End(key), words, next),
         _ => {
             let up = words.u32_at(next)?;
             let down = words.u32_at(next.saturating_add(1))?;
-            timed(Event::Usage(key, up, down), words, next.saturating_add(2))
+            at_time(Event::Usage(key, up, down), words, next.saturating_add(2))
         }
     }
 }
 
 pub fn read_call<K: ReadKey>(words: &Words) -> Result<Timed<K>, Wrong> {
     match words.at(0) {
-        "open" => timed(Event::Open, words, 1),
-        "change" => timed(Event::Change(words.u8_at(1)?), words, 2),
-        "tick" => timed(Event::Tick, words, 1),
-        "intervene" => timed(Event::Intervene, words, 1),
-        "push" => timed(Event::Push, words, 1),
-        "finish" => timed(Event::Finish(words.u8_at(1)?), words, 2),
-        "shelve" => timed(Event::Shelve, words, 1),
+        "open" => at_time(Event::Open, words, 1),
+        "change" => at_time(Event::Change(words.u8_at(1)?), words, 2),
+        "tick" => at_time(Event::Tick, words, 1),
+        "intervene" => at_time(Event::Intervene, words, 1),
+        "push" => at_time(Event::Push, words, 1),
+        "finish" => at_time(Event::Finish(words.u8_at(1)?), words, 2),
+        "shelve" => at_time(Event::Shelve, words, 1),
         _ => read_keyed(words),
     }
 }

@@ -103,10 +103,7 @@ fn read_line(
     }
 }
 
-pub fn read_setup(
-    rt: &(impl Print + Alloc<A = Global>),
-    input: &mut Input,
-) -> Result<Setup, Stop> {
+pub fn read_setup(rt: &(impl Print + Alloc<A = Global>), input: &mut Input) -> Result<Setup, Stop> {
     let mut session = None;
     let mut overrides = Vec::new(rt.alloc());
     let mut places = None;
