@@ -2,4 +2,3 @@ pub mod WrittenLaws
 pub mod SequenceLaws
 pub mod SumLaws
 pub mod Profiles
-pub mod Lent

@@ -13,7 +13,7 @@ use Rattle.entries.specs.declared.taker.Override.{Override}
 use Rattle.entries.specs.declared.making.Unmade.{Unmade}
 use Rattle.entries.specs.declared.making.Unmade.the-variants.{TooManyOverrides, WrongLength}
 use Rattle.entries.specs.declared.book.Book.{Book}
-use Rattle.entries.specs.Makings.{most-overrides, lent-unless}
+use Rattle.entries.specs.Makings.{most-overrides, lent-unless, made-live}
 use Rattle.entries.specs.Written.{written}
 
 -- the most entries of a lent table
@@ -24,9 +24,9 @@ most-entries = 4096
 abbrev pub entries-of : Book → List Entry
 entries-of b = take (b .used) (now (b .table))
 
--- the places left
+-- the places left; none after a refused making
 abbrev pub places-left : Book → ℕ
-places-left b = length (now (b .table)) - b .used
+places-left b = cond (b .live) (length (now (b .table)) - b .used) 0
 
 abbrev pub overrides-of : Book → List Override
 overrides-of b = take most-overrides (now (b .overrides))
@@ -35,6 +35,7 @@ overrides-of b = take most-overrides (now (b .overrides))
 pub record Grown (before : Book) (head : Entry) (containers : List Entry) (after : Book) : Type 0 where
   pub table : now (after .table) ≡ written (now (before .table)) (before .used) (head ∷ containers)
   pub used : after .used ≡ before .used + (length containers + 1)
+  pub live : after .live ≡ before .live
   pub overrides : now (after .overrides) ≡ now (before .overrides)
 
 -- why a making is refused; the profile is looked at first
@@ -43,9 +44,10 @@ unmade-book overrides entries =
     cond (ltb most-overrides overrides) (Some TooManyOverrides)
     (cond (ltb most-entries entries) (Some (WrongLength entries)) None)
 
--- an empty book over a table with a profile; a refused one holds nothing of either, so that it takes nothing for good
+-- an empty book over a table with a profile, which writes nothing; a refused one takes nothing for good
 pub record New-book (lent : List Entry) (profile : List Override) (refused : Option Unmade) (b : Book) : Type 0 where
   pub answer : refused ≡ unmade-book (length profile) (length lent)
+  pub table : now (b .table) ≡ lent
   pub used : b .used ≡ 0
-  pub table : now (b .table) ≡ lent-unless refused lent
+  pub live : b .live ≡ made-live refused
   pub overrides : now (b .overrides) ≡ lent-unless refused profile

@@ -1,5 +1,6 @@
 -- Why the making of a book or a journal is refused.
 use mathlib.Core.List.{List, []}
+use mathlib.Core.Bool.{Bool, true, false}
 use Prim.Native.Nat.{ℕ}
 use Rattle.std.specs.declared.option.Option.{Option}
 use Rattle.std.specs.declared.option.Option.the-variants.{Some, None}
@@ -24,3 +25,8 @@ unmade-place (WrongLength n) = Some n
 abbrev pub lent-unless : {X : Type 0} → Option Unmade → List X → List X
 lent-unless None xs = xs
 lent-unless (Some r) xs = []
+
+-- whether what is made takes anything at all
+abbrev pub made-live : Option Unmade → Bool
+made-live None = true
+made-live (Some r) = false

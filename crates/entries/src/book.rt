@@ -17,6 +17,8 @@ pub const MOST_ENTRIES: usize = 4096;
 pub struct Book<'a> {
     table: &'a mut [Entry],
     used: usize,
+    // whether the making was not refused
+    live: bool,
     overrides: &'a [Override],
 }
 
@@ -49,19 +51,20 @@ impl<'a> Book<'a> {
         ensures { λ r. ⌜ New-book (now (table .entry)) (now (overrides .entry)) (r .refused) (r .value) ⌝ }
     {
         let refused = unmade(overrides.len(), table.len());
-        if refused.is_none() {
+        if refused.is_some() {
             let value = Book {
                 table,
                 used: 0,
-                overrides,
+                live: false,
+                overrides: &[],
             };
             return Made { value, refused };
         }
-        let (none, _) = table.split_at_mut(0);
         let value = Book {
-            table: none,
+            table,
             used: 0,
-            overrides: &[],
+            live: true,
+            overrides,
         };
         Made { value, refused }
     }
@@ -83,6 +86,9 @@ pub impl<'a> Taker for Book<'a> as BookTaker {
     ghost took = { Grown };
 
     fn intake(&self) -> usize {
+        if !self.live {
+            return 0;
+        }
         self.table.len().saturating_sub(self.used)
     }
 

@@ -1,7 +1,7 @@
 -- What a journal holds, what it is after a request, and how it is made.
 use mathlib.Core.Path.{_≡_}
 use mathlib.Core.List.{List, [], _∷_, _++_}
-use mathlib.Core.Bool.{Bool, true, false, cond, _||_, _&&_}
+use mathlib.Core.Bool.{Bool, true, cond, _||_, _&&_}
 use Prim.Native.Nat.{ℕ, suc, _+_, _≤_}
 use lib.Dec.{ltb, leb}
 use lib.ListN.{length, take}
@@ -15,7 +15,7 @@ use Rattle.entries.specs.declared.entry.Entry.{Entry}
 use Rattle.entries.specs.declared.taker.Override.{Override}
 use Rattle.entries.specs.declared.making.Unmade.{Unmade}
 use Rattle.entries.specs.declared.making.Unmade.the-variants.{TooManyOverrides, WrongLength}
-use Rattle.entries.specs.Makings.{most-overrides, lent-unless}
+use Rattle.entries.specs.Makings.{most-overrides, lent-unless, made-live}
 use Rattle.entries.specs.Requests.{well-formed}
 use Rattle.entries.specs.Written.{written}
 use Rattle.journal.specs.declared.fault.Fault.{Fault}
@@ -63,10 +63,6 @@ unmade-journal overrides bytes =
 abbrev pub made-bytes : Option Unmade → List ℕ → List ℕ
 made-bytes None lent = written lent 0 (header-bytes 0 0)
 made-bytes (Some r) lent = lent
-
-abbrev pub made-live : Option Unmade → Bool
-made-live None = true
-made-live (Some r) = false
 
 -- an empty journal over lent bytes, with a profile; a refused one takes nothing for good
 pub record New-journal (lent : List ℕ) (profile : List Override) (refused : Option Unmade) (j : Journal) : Type 0 where
