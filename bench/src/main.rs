@@ -1,5 +1,6 @@
 //! `bench replay`: runs a call list from standard input on the hand-written charger and prints what `replay` prints.
 //! `bench random SEED CALLS`: prints a random call list.
+//! `bench speed LINES REPORTS`: counts usage reports that close nothing.
 mod charger;
 
 use charger::*;
@@ -210,11 +211,31 @@ fn random(seed: u64, calls: u64) {
     }
 }
 
+/// So many usage reports on so many lines, as the program `speed` makes them.
+fn speed(lines: u64, reports: u64) {
+    let (mut s, _) = Session::new(Method::Converged, 7, [0; 5]);
+    let mut book = Book { entries: Vec::with_capacity(64), places: 64, up: true, profile: Vec::new() };
+    s.open(1, &mut book).unwrap();
+    let id = |n: u64| Some(Id { kind: 4, code: std::hint::black_box(n) * 131_072 });
+    for n in 0..lines {
+        s.start(id(n), 1, &mut book).unwrap();
+    }
+    let mut accepted = 0;
+    let mut n = 0;
+    for _ in 0..reports {
+        accepted += s.usage(id(n), 1, 2, 2, &mut book).is_ok() as u64;
+        n = if n + 1 == lines { 0 } else { n + 1 };
+    }
+    s.finish(19, 3, &mut book).unwrap();
+    println!("{accepted} reports");
+}
+
 fn main() {
     let args: Vec<String> = std::env::args().collect();
     match args.get(1).map(String::as_str) {
         Some("replay") => replay(),
         Some("random") => random(number(&args[2]), number(&args[3])),
-        _ => eprintln!("bench replay | bench random SEED CALLS"),
+        Some("speed") => speed(number(&args[2]), number(&args[3])),
+        _ => eprintln!("bench replay | bench random SEED CALLS | bench speed LINES REPORTS"),
     }
 }

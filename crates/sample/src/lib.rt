@@ -61,7 +61,7 @@ fn count<F: Taker>(session: &mut Session<Converged>, function: &mut F) -> Result
 }
 
 // Gives the slip back where the session cannot be finished, and hands on why.
-fn give_up(session: &mut Session<Converged>, slip: Slip, why: Failure) -> Stop {
+pub fn give_up(session: &mut Session<Converged>, slip: Slip, why: Failure) -> Stop {
     match session.shelve(140, slip) {
         Ok(_) => Stop::Failed(why),
         Err((_, slip)) => Stop::Owed(slip),

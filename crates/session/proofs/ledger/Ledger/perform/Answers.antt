@@ -14,16 +14,11 @@ use Rattle.session.specs.View.{view}
 use Rattle.session.proofs.Acting.{acted-is, acted-sane, acted-formed, stop-within}
 use Rattle.session.proofs.ledger.Ledger.perform.Needs as need
 
--- the lines and the containers after the closings
-closed : (c : need.After-stop-line-arg·1)
-    → vec-items (c .close-all-closed .last .lines)
-    ≡ closed-lines (closes (c .args .act .chosen) (c .args .t)) (c .args .t) (edited (c .args .act .edit) (vec-items (c .args .self .now .lines)))
-closed c =
-    c .close-all-closed .ensures .after ∙ ap (closed-lines (closes (c .args .act .chosen) (c .args .t)) (c .args .t)) (c .edit-lines .ensures .after)
-
 pub stop-line-requires : need.stop-line-requires
 stop-line-requires c κs = record {
-  within = subst (Stop-within (c .args .act .stop)) (sym (closed c))
+  within = subst (Stop-within (c .args .act .stop))
+      (sym (c .close-all-closed .ensures .after
+      ∙ ap (closed-lines (closes (c .args .act .chosen) (c .args .t)) (c .args .t)) (c .edit-lines .ensures .after)))
       (stop-within (view (c .args .self .now)) (c .args .act) (c .args .t) (c .pre .fit));
 }
 
