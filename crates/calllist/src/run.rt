@@ -14,12 +14,7 @@ use entries::taker::*;
 // An entry a line, its fields in the order of the layout.
 fn show(rt: &impl Print, entries: &[Entry]) -> Result<(), Stop> {
     for e in entries {
-        let printed = println!(
-            rt,
-            "{} {} {} {} {} {} {} {} {}",
-            e.kind, e.cause, e.period, e.number, e.from, e.to, e.code, e.uplink.0, e.downlink.0
-        );
-        if printed.is_err() {
+        if println!(rt, "{e}").is_err() {
             return Err(Stop::Output);
         }
     }

@@ -1,5 +1,7 @@
 // Entries: what a book is a list of. A request is a head and the containers that follow it.
 
+use std::fmt;
+
 // Entry kinds: the first three are heads, the others containers.
 pub const INITIAL: u8 = 1;
 
@@ -48,3 +50,16 @@ pub const BLANK_ENTRY: Entry = Entry {
     uplink: Uplink(0),
     downlink: Downlink(0),
 };
+
+// As printed: the fields in the order of the layout, one space between.
+pub impl fmt::Display for Entry as EntryDisplay {
+    fn fmt<W: fmt::Write>(&self, f: &mut fmt::Formatter<W>) -> fmt::Result {
+        let (up, down) = (self.uplink.0, self.downlink.0);
+        write!(
+            f,
+            "{} {} {} {} ",
+            self.kind, self.cause, self.period, self.number
+        )?;
+        write!(f, "{} {} {} {up} {down}", self.from, self.to, self.code)
+    }
+}

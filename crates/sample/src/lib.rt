@@ -101,12 +101,7 @@ pub fn make_session(heap: Global) -> Result<Session<Converged>, Failure> {
 // An entry a line, its fields in the order of the layout.
 pub fn show(rt: &impl Print, entries: &[Entry]) -> Result<(), Failure> {
     for e in entries {
-        let printed = println!(
-            rt,
-            "{} {} {} {} {} {} {} {} {}",
-            e.kind, e.cause, e.period, e.number, e.from, e.to, e.code, e.uplink.0, e.downlink.0
-        );
-        if printed.is_err() {
+        if println!(rt, "{e}").is_err() {
             return Err(Failure::Output);
         }
     }
