@@ -1,4 +1,6 @@
 // Answers as they are printed.
+ghost use mathlib.Core.Path.{_≡_};
+ghost use Rattle.calllist.specs.Shown.{session-made, book-made, is-accepted};
 use entries::making::Unmade;
 use session::answer::*;
 use std::fmt;
@@ -17,7 +19,9 @@ pub enum Answer {
 
 impl Answer {
     // Of a session's making.
-    pub fn of_session(refused: Option<NotMade>) -> Answer {
+    pub(crate) fn of_session(refused: Option<NotMade>) -> Answer
+        ensures { λ r. ⌜ r ≡ session-made refused ⌝ }
+    {
         match refused {
             None => Answer::Made,
             Some(why) => Answer::Refused(why.number()),
@@ -25,7 +29,9 @@ impl Answer {
     }
 
     // Whether the call was accepted.
-    pub fn is_accepted(&self) -> bool {
+    pub(crate) fn is_accepted(&self) -> bool
+        ensures { λ r. ⌜ r ≡ is-accepted (now (self .entry)) ⌝ }
+    {
         !matches!(
             self,
             Answer::Refused(_) | Answer::RefusedAt(_, _) | Answer::NoSlip
@@ -33,7 +39,9 @@ impl Answer {
     }
 
     // Of a book's making.
-    pub fn of_book(refused: Option<Unmade>) -> Answer {
+    pub(crate) fn of_book(refused: Option<Unmade>) -> Answer
+        ensures { λ r. ⌜ r ≡ book-made refused ⌝ }
+    {
         let Some(why) = refused else {
             return Answer::Made;
         };

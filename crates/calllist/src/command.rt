@@ -21,7 +21,7 @@ pub struct SessionLine {
     pub thresholds: Thresholds,
 }
 
-pub fn read_session(words: &Words) -> Result<SessionLine, Wrong> {
+pub(crate) fn read_session(words: &Words) -> Result<SessionLine, Wrong> {
     words.expect(8)?;
     let id = words.u32_at(1)?;
     let method = match words.at(2) {
@@ -45,7 +45,7 @@ pub fn read_session(words: &Words) -> Result<SessionLine, Wrong> {
 }
 
 // `profile TRIGGER SWITCH CATEGORY THRESHOLD`
-pub fn read_profile(words: &Words) -> Result<Override, Wrong> {
+pub(crate) fn read_profile(words: &Words) -> Result<Override, Wrong> {
     words.expect(5)?;
     Ok(Override {
         trigger: words.u8_at(1)?,
@@ -56,13 +56,13 @@ pub fn read_profile(words: &Words) -> Result<Override, Wrong> {
 }
 
 // `book PLACES`
-pub fn read_book(words: &Words) -> Result<u32, Wrong> {
+pub(crate) fn read_book(words: &Words) -> Result<u32, Wrong> {
     words.expect(2)?;
     words.u32_at(1)
 }
 
 // `link up` or `link down`
-pub fn read_link(words: &Words) -> Result<bool, Wrong> {
+pub(crate) fn read_link(words: &Words) -> Result<bool, Wrong> {
     words.expect(2)?;
     match words.at(1) {
         "up" => Ok(true),
@@ -71,7 +71,7 @@ pub fn read_link(words: &Words) -> Result<bool, Wrong> {
     }
 }
 
-pub fn is_call(name: &str) -> bool {
+pub(crate) fn is_call(name: &str) -> bool {
     matches!(
         name,
         "open"
@@ -118,7 +118,7 @@ fn read_keyed<K: ReadKey>(words: &Words) -> Result<Timed<K>, Wrong> {
     }
 }
 
-pub fn read_call<K: ReadKey>(words: &Words) -> Result<Timed<K>, Wrong> {
+pub(crate) fn read_call<K: ReadKey>(words: &Words) -> Result<Timed<K>, Wrong> {
     match words.at(0) {
         "open" => at_time(Event::Open, words, 1),
         "change" => at_time(Event::Change(words.u8_at(1)?), words, 2),

@@ -17,7 +17,7 @@ pub struct Input {
 pub struct Unreadable;
 
 impl Input {
-    pub fn new(heap: Global, stdin: Stdin) -> Input {
+    pub(crate) fn new(heap: Global, stdin: Stdin) -> Input {
         Input {
             reader: BufReader::new(stdin),
             line: String::new(heap),
@@ -26,7 +26,7 @@ impl Input {
     }
 
     // Reads the next line; false at the end of the input.
-    pub fn next_line(&mut self) -> Result<bool, Unreadable> {
+    pub(crate) fn next_line(&mut self) -> Result<bool, Unreadable> {
         self.line.clear();
         match self.reader.read_line(&mut self.line) {
             Ok(0) => Ok(false),
@@ -38,7 +38,7 @@ impl Input {
         }
     }
 
-    pub fn line(&self) -> &str {
+    pub(crate) fn line(&self) -> &str {
         self.line.as_str()
     }
 }

@@ -1,4 +1,11 @@
 // Playing calls on a session.
+ghost use mathlib.Core.Path.{_≡_};
+ghost use mathlib.Core.List.{[]};
+ghost use Rattle.session.specs.declared.event.Event.the-variants.{Open as Opening, Finish as Finishing, Shelve as Shelving};
+ghost use Rattle.session.specs.Answers.{told-report};
+ghost use Rattle.session.specs.Steps.{step, seen, fed};
+ghost use Rattle.session.specs.View.{view};
+ghost use Rattle.calllist.specs.Shown.{shown, by-slip, unless-held, answer-to};
 use crate::answer::*;
 use crate::command::*;
 use crate::input::*;
@@ -23,14 +30,16 @@ pub enum Stop {
     Memory,
 }
 
-pub fn say(rt: &impl Print, name: &str, answer: Answer) -> Result<(), Stop> {
+pub(crate) fn say(rt: &impl Print, name: &str, answer: Answer) -> Result<(), Stop> {
     match println!(rt, "{name}: {answer}") {
         Ok(()) => Ok(()),
         Err(_) => Err(Stop::Output),
     }
 }
 
-fn of_report(answer: Result<Reported, Refusal>) -> Answer {
+fn of_report(answer: Result<Reported, Refusal>) -> Answer
+    ensures { λ r. ⌜ r ≡ shown (told-report answer) ⌝ }
+{
     match answer {
         Ok(reported) => Answer::Reported(reported),
         Err(why) => Answer::Refused(why.number()),
@@ -43,7 +52,9 @@ fn open<M: Method, F: ChargingFunction>(
     function: &mut F,
     t: u32,
     held: Option<Slip>,
-) -> (Answer, Option<Slip>) {
+) -> (Answer, Option<Slip>)
+    ensures { λ r. ⌜ r .0 ≡ unless-held held (step (M·Method .column) (view (now (session .entry) .ledger)) (seen (Key·LineKey .coding) (fed Opening 0 t (F·Taker .room (now (function .entry))) (F·ChargingFunction .profile (now (function .entry))))) .answer) ⌝ }
+{
     match held {
         Some(slip) => (Answer::Refused(Refusal::WrongPhase.number()), Some(slip)),
         None => match session.open(t, function) {
@@ -59,7 +70,9 @@ fn finish<M: Method, F: Taker>(
     cause: u8,
     t: u32,
     held: Option<Slip>,
-) -> (Answer, Option<Slip>) {
+) -> (Answer, Option<Slip>)
+    ensures { λ r. ⌜ r .0 ≡ by-slip held (λ s. step (M·Method .column) (view (now (session .entry) .ledger)) (seen (Key·LineKey .coding) (fed (Finishing cause) (s .id) t (F·Taker .room (now (taker .entry))) [])) .answer) ⌝ }
+{
     match held {
         None => (Answer::NoSlip, None),
         Some(slip) => match session.finish(cause, t, slip, taker) {
@@ -69,11 +82,9 @@ fn finish<M: Method, F: Taker>(
     }
 }
 
-fn shelve<M: Method>(
-    session: &mut Session<M>,
-    t: u32,
-    held: Option<Slip>,
-) -> (Answer, Option<Slip>) {
+fn shelve<M: Method>(session: &mut Session<M>, t: u32, held: Option<Slip>) -> (Answer, Option<Slip>)
+    ensures { λ r. ⌜ r .0 ≡ by-slip held (λ s. step (M·Method .column) (view (now (session .entry) .ledger)) (seen (Key·LineKey .coding) (fed Shelving (s .id) t 0 [])) .answer) ⌝ }
+{
     match held {
         None => (Answer::NoSlip, None),
         Some(slip) => match session.shelve(t, slip) {
@@ -90,7 +101,9 @@ fn call<M: Method, F: ChargingFunction>(
     event: Event<M::Key>,
     t: u32,
     held: Option<Slip>,
-) -> (Answer, Option<Slip>) {
+) -> (Answer, Option<Slip>)
+    ensures { λ r. ⌜ r .0 ≡ answer-to (Key·LineKey .coding) (M·Method .column) (view (now (session .entry) .ledger)) event held t (F·Taker .room (now (function .entry))) (F·ChargingFunction .profile (now (function .entry))) ⌝ }
+{
     match event {
         Event::Open => open(session, function, t, held),
         Event::Start(key) => (of_report(session.start(key, t, function)), held),
@@ -194,7 +207,7 @@ pub enum Ended {
 }
 
 // Plays the lines that are left.
-pub fn play<M: Method, F: ChargingFunction>(
+pub(crate) fn play<M: Method, F: ChargingFunction>(
     rt: &impl Print,
     input: &mut Input,
     session: &mut Session<M>,
@@ -227,7 +240,7 @@ where
 }
 
 // The words of the next line, none at the end of the input.
-pub fn next_words(input: &mut Input) -> Result<Option<Words<'_>>, Stop> {
+pub(crate) fn next_words(input: &mut Input) -> Result<Option<Words<'_>>, Stop> {
     match input.next_line() {
         Ok(true) => match Words::of(input.line()) {
             Ok(words) => Ok(Some(words)),

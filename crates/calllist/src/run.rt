@@ -67,7 +67,7 @@ fn play_on(
 }
 
 // Runs a call list to its end.
-pub fn run(rt: &LibcRuntime, input: &mut Input) -> Result<(), Ended> {
+fn run(rt: &LibcRuntime, input: &mut Input) -> Result<(), Ended> {
     let Setup {
         session,
         overrides,

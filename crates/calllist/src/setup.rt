@@ -18,7 +18,7 @@ pub enum AnySession {
 }
 
 // Makes the session of a line, and prints whether it was made.
-pub fn make_session(
+pub(crate) fn make_session(
     rt: &(impl Print + Alloc<A = Global>),
     words: &Words,
 ) -> Result<AnySession, Stop> {
@@ -103,7 +103,10 @@ fn read_line(
     }
 }
 
-pub fn read_setup(rt: &(impl Print + Alloc<A = Global>), input: &mut Input) -> Result<Setup, Stop> {
+pub(crate) fn read_setup(
+    rt: &(impl Print + Alloc<A = Global>),
+    input: &mut Input,
+) -> Result<Setup, Stop> {
     let mut session = None;
     let mut overrides = Vec::new(rt.alloc());
     let mut places = None;
@@ -124,7 +127,7 @@ pub fn read_setup(rt: &(impl Print + Alloc<A = Global>), input: &mut Input) -> R
 }
 
 // The session where its line comes after that of the book; none at the end of the input. A link may be told before it.
-pub fn await_session<F: ChargingFunction>(
+pub(crate) fn await_session<F: ChargingFunction>(
     rt: &(impl Print + Alloc<A = Global>),
     input: &mut Input,
     link: &mut entries::link::Link<F>,

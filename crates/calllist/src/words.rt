@@ -19,7 +19,7 @@ pub enum Wrong {
 }
 
 impl Wrong {
-    pub fn text(self) -> &'static str {
+    pub(crate) fn text(self) -> &'static str {
         match self {
             Wrong::UnknownLine => "no such line",
             Wrong::WordCount => "wrong number of words",
@@ -43,7 +43,7 @@ pub struct Words<'a> {
 }
 
 impl<'a> Words<'a> {
-    pub fn of(line: &'a str) -> Result<Words<'a>, Wrong> {
+    pub(crate) fn of(line: &'a str) -> Result<Words<'a>, Wrong> {
         let mut word = [""; MOST_WORDS];
         let mut count: usize = 0;
         for w in line.split_whitespace() {
@@ -59,16 +59,16 @@ impl<'a> Words<'a> {
         Ok(Words { word, count })
     }
 
-    pub fn is_empty(&self) -> bool {
+    pub(crate) fn is_empty(&self) -> bool {
         self.count == 0
     }
 
     // The word of an index; empty past the last.
-    pub fn at(&self, i: usize) -> &'a str {
+    pub(crate) fn at(&self, i: usize) -> &'a str {
         if i < MOST_WORDS { self.word[i] } else { "" }
     }
 
-    pub fn expect(&self, count: usize) -> Result<(), Wrong> {
+    pub(crate) fn expect(&self, count: usize) -> Result<(), Wrong> {
         if self.count == count {
             Ok(())
         } else {
@@ -76,7 +76,7 @@ impl<'a> Words<'a> {
         }
     }
 
-    pub fn u8_at(&self, i: usize) -> Result<u8, Wrong> {
+    pub(crate) fn u8_at(&self, i: usize) -> Result<u8, Wrong> {
         let n = self.u64_at(i)?;
         match u8::try_from(n) {
             Ok(n) => Ok(n),
@@ -84,7 +84,7 @@ impl<'a> Words<'a> {
         }
     }
 
-    pub fn u32_at(&self, i: usize) -> Result<u32, Wrong> {
+    pub(crate) fn u32_at(&self, i: usize) -> Result<u32, Wrong> {
         let n = self.u64_at(i)?;
         match u32::try_from(n) {
             Ok(n) => Ok(n),
@@ -93,7 +93,7 @@ impl<'a> Words<'a> {
     }
 
     // A decimal number, of digits alone.
-    pub fn u64_at(&self, i: usize) -> Result<u64, Wrong> {
+    pub(crate) fn u64_at(&self, i: usize) -> Result<u64, Wrong> {
         let w = self.at(i);
         if w.starts_with('+') {
             return Err(Wrong::Number);
