@@ -1,7 +1,7 @@
 // A book: a charging function that writes requests into a lent table of entries.
 ghost use mathlib.Core.Path.{_≡_};
 ghost use mathlib.Core.List.{_∷_};
-ghost use Prim.Native.Nat.{ℕ, _+_, _≤_};
+ghost use Prim.Native.Nat.{_+_, _≤_};
 ghost use lib.ListN.{length};
 ghost use Rattle.entries.specs.Books.{entries-of, places-left, overrides-of, Grown, New-book, unmade-book};
 ghost use Rattle.entries.specs.Written.{written};

@@ -1,7 +1,5 @@
 // Line keys: what usage is counted on, and how a container names it.
 ghost use mathlib.Core.Path.{_≡_};
-ghost use mathlib.Core.Bool.{Bool, true};
-ghost use Prim.Native.Nat.{ℕ, _≤_};
 ghost use Rattle.entries.specs.Keys.{Coding, Distinct, Of-lines, named, services, flows};
 use crate::entry::*;
 

@@ -1,6 +1,5 @@
 // Charging methods: a kind of line keys together with a column of the trigger table.
 ghost use mathlib.Core.Path.{_≡_};
-ghost use Prim.Native.Nat.{ℕ};
 ghost use Rattle.entries.specs.Columns.{Column, Tariff-fixed, table, converged, offline-only, qos-flow};
 use crate::key::*;
 use crate::trigger::*;

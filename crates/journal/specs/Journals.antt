@@ -1,7 +1,7 @@
 -- What a journal holds, what it is after a request, and how it is made.
 use mathlib.Core.Path.{_≡_}
 use mathlib.Core.List.{List, [], _∷_, _++_}
-use mathlib.Core.Bool.{Bool, true, cond, _||_, _&&_}
+use mathlib.Core.Bool.{true, cond, _||_, _&&_}
 use Prim.Native.Nat.{ℕ, suc, _+_, _≤_}
 use lib.Dec.{ltb, leb}
 use lib.ListN.{length, take}

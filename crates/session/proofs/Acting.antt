@@ -1,10 +1,9 @@
 -- The session after an act that fits: it keeps the bounds, and its containers are well formed.
-use mathlib.Core.Path.{_≡_, refl, sym, _∙_, ap}
+use mathlib.Core.Path.{_≡_}
 use mathlib.Core.Bool.{Bool, true}
 use mathlib.Core.List.{List, _++_}
-use Prim.Native.Nat.{ℕ, _+_, _≤_}
+use Prim.Native.Nat.{ℕ, _+_}
 use native.Mathlib.Omega.{arith}
-use lib.ListN.{length}
 use Rattle.entries.specs.declared.entry.Entry.{Entry}
 use Rattle.entries.specs.Requests.{containers-formed}
 use Rattle.session.specs.declared.state.Act.{Act}
@@ -12,7 +11,6 @@ use Rattle.session.specs.declared.state.Line.{Line}
 use Rattle.session.specs.Closing.{closes, closing-count, closed-lines, closings}
 use Rattle.session.specs.Fit.{Fit, Stop-within}
 use Rattle.session.specs.Performing.{edited, stopped-at, acted}
-use Rattle.session.specs.Sound.{sound-lines, volume-of-all}
 use Rattle.session.specs.State.{State}
 use Rattle.session.proofs.Bounds.{closings-formed, formed-append, sound-closed, volume-closed, length-closed, length-edited, within-more, sound-stopped, volume-stopped}
 use Rattle.session.proofs.Fits.{Sane}

@@ -23,7 +23,7 @@ use Rattle.entries.specs.declared.entry.Entry.{Entry}
 use Rattle.entries.specs.Requests.{container-formed, containers-formed, head-formed, well-formed, take-answer}
 use Rattle.session.specs.Sound.{bounded, sound-line, sound-lines, volume-of-all, Bounded}
 use Rattle.session.specs.Performing.{edited, stopped-at}
-use Rattle.session.specs.State.{no-line, stopped, volume-sum}
+use Rattle.session.specs.State.{no-line, stopped}
 
 pub bounds : (l : Line) → bounded l ≡ true → Bounded l
 bounds l h =

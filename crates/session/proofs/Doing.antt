@@ -19,30 +19,23 @@ use Rattle.entries.specs.declared.method.Rule.{Rule}
 use Rattle.entries.specs.declared.taker.Override.{Override}
 use Rattle.entries.specs.Columns.{Column, Tariff-fixed}
 use Rattle.entries.specs.Entries.{initial, update as update-kind, termination}
-use Rattle.entries.specs.Octets.{Direction}
 use Rattle.entries.specs.Triggers.{tariff-time, is-limit}
 use Rattle.session.specs.declared.answer.Due.{Due}
 use Rattle.session.specs.declared.answer.Opened.{Opened}
 use Rattle.session.specs.declared.answer.Refusal.{Refusal}
 use Rattle.session.specs.declared.answer.Refusal.the-variants.{IntakeTooSmall}
-use Rattle.session.specs.declared.event.Event.{Event}
 use Rattle.session.specs.declared.event.Event.the-variants.{Open as Opening, Start, Usage, End, Change, Tick, Intervene, Push, Finish, Shelve}
 use Rattle.session.specs.declared.state.Act.{Act}
-use Rattle.session.specs.declared.state.Line.{Line}
-use Rattle.session.specs.declared.state.Phase.{Phase}
-use Rattle.session.specs.declared.state.Phase.the-variants.{Fresh, Open, Ended, Shelved}
 use Rattle.session.specs.declared.state.Trigger.{Trigger}
 use Rattle.session.specs.Answers.{Answer, refused, number, told-opening, told-report, told-finish, told-shelving}
-use Rattle.session.specs.Closing.{closes, restarted, closings, closing-count}
-use Rattle.session.specs.Deciding.{Call, decide, decide-in}
-use Rattle.session.specs.Laws.{is-tariff-change, is-container}
-use Rattle.session.specs.Performing.{Outcome, refusal, edited, acted, no-place, all-waiting, head, head-of, offer-taken, offer, report, reported, report-unless, reporting, terminated, finish-unless, finishing, shelving, opened, opening}
+use Rattle.session.specs.Deciding.{Call, decide}
+use Rattle.session.specs.Laws.{is-container}
+use Rattle.session.specs.Performing.{Outcome, acted, no-place, all-waiting, head, head-of, offer-taken, report, reported, report-unless, reporting, finish-unless, finishing, shelving, opening}
 use Rattle.session.specs.Performing.{report-above}
 use Rattle.session.specs.Profiles.{applied, applied-one, permitted, permitted-by, override-in-range, overridden}
-use Rattle.session.specs.State.{State, trigger, no-trigger, stopped}
+use Rattle.session.specs.State.{State, trigger, no-trigger}
 use Rattle.session.specs.Steps.{Fed, answered, step, step-of, accepted as was-accepted}
-use Rattle.session.proofs.Fair.{Sound, Deed, deed, Fair, Fair-act, Good-in-time, Whole, is-finish, next-phase, no-way, decide-fair}
-use Rattle.session.proofs.Updates.{update}
+use Rattle.session.proofs.Fair.{Sound, Fair-act, Good-in-time, is-finish, no-way, decide-fair}
 
 pub record Stayed (s : State) (o : Outcome Answer) : Type 0 where
   pub state : o .state ≡ s

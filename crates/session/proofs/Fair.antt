@@ -18,22 +18,21 @@ use Rattle.entries.specs.Keys.{same-line}
 use Rattle.entries.specs.Octets.{Direction, up, down, in-direction}
 use Rattle.entries.specs.Triggers.{tariff-time, session-time, session-volume, line-time, line-volume, session-end, abort, is-condition}
 use Rattle.session.specs.declared.answer.Refusal.{Refusal}
-use Rattle.session.specs.declared.answer.Refusal.the-variants.{WrongPhase, OtherSlip, Early, OutOfRange, LineActive, NoActiveLine, TooManyLines, TooLarge}
-use Rattle.session.specs.declared.event.Event.{Event}
+use Rattle.session.specs.declared.answer.Refusal.the-variants.{OtherSlip, Early, OutOfRange, LineActive, NoActiveLine, TooManyLines, TooLarge}
 use Rattle.session.specs.declared.event.Event.the-variants.{Open as Opening, Start, Usage, End, Change, Tick, Intervene, Push, Finish, Shelve}
 use Rattle.session.specs.declared.state.Act.{Act}
-use Rattle.session.specs.declared.state.Edit.the-variants.{Keep, Put, Add}
+use Rattle.session.specs.declared.state.Edit.the-variants.{Keep}
 use Rattle.session.specs.declared.state.Line.{Line}
 use Rattle.session.specs.declared.state.Phase.{Phase}
 use Rattle.session.specs.declared.state.Phase.the-variants.{Fresh, Open, Ended, Shelved}
 use Rattle.session.specs.declared.state.Selection.{Selection}
 use Rattle.session.specs.declared.state.Selection.the-variants.{Nothing, Active, One, OpenFor}
-use Rattle.session.specs.Closing.{closes, restarted, closed-lines, closing-count}
-use Rattle.session.specs.Deciding.{Call, started-key, open-act, start-at, count-act, usage-at, ending, end-at, changing, change-act, tick-act, intervene-act, push-act, finish-act, shelve-act}
+use Rattle.session.specs.Closing.{closes, restarted, closed-lines}
+use Rattle.session.specs.Deciding.{Call, open-act, start-at, count-act, usage-at, ending, end-at, changing, change-act, tick-act, intervene-act, push-act, finish-act, shelve-act}
 use Rattle.session.specs.Deciding.{most-lines, largest-period, own-slip, timely, when-fresh, when-open, decide, decide-in}
 use Rattle.session.specs.Laws.{is-tariff-change, open-of, open-on}
 use Rattle.session.specs.Performing.{edited, stopped-at}
-use Rattle.session.specs.State.{State, trigger, can-fire, limit-met, line-at, no-line, new-line, counted, started, stopped, over-total, open-octets, volume-sum, place-of, place-from}
+use Rattle.session.specs.State.{State, trigger, can-fire, limit-met, line-at, no-line, new-line, counted, started, stopped, over-total, open-octets, volume-sum, place-of}
 use Rattle.session.proofs.Places.{place-found}
 use Rattle.session.proofs.Updates.{is-line, active-line, any, update, Apart, Idle, same-sym, same-refl, not-active, apart-update, all-update, open-update, none-are, apart-push, open-push, count-one}
 use Rattle.session.proofs.Updates.{place-none, update-at, any-at, none-active, closed-update}

@@ -15,25 +15,22 @@ use Rattle.entries.specs.declared.key.LineId.{LineId}
 use Rattle.entries.specs.Entries.{service-line, qos-line}
 use Rattle.entries.specs.Triggers.{between, tariff-time, session-end, abort, is-condition, session-time, line-time, session-volume, line-volume}
 use Rattle.session.specs.declared.answer.Refusal.{Refusal}
-use Rattle.session.specs.declared.answer.Refusal.the-variants.{WrongPhase, OtherSlip, Early, OutOfRange, LineActive, NoActiveLine, TooManyLines, TooLarge}
-use Rattle.session.specs.declared.event.Event.{Event}
+use Rattle.session.specs.declared.answer.Refusal.the-variants.{OtherSlip, Early, OutOfRange, LineActive, NoActiveLine, TooManyLines, TooLarge}
 use Rattle.session.specs.declared.event.Event.the-variants.{Open as Opening, Start, Usage, End, Change, Tick, Intervene, Push, Finish, Shelve}
 use Rattle.session.specs.declared.state.Act.{Act}
-use Rattle.session.specs.declared.state.Edit.{Edit}
-use Rattle.session.specs.declared.state.Edit.the-variants.{Keep, Put, Add}
+use Rattle.session.specs.declared.state.Edit.the-variants.{Keep, Put}
 use Rattle.session.specs.declared.state.Line.{Line}
-use Rattle.session.specs.declared.state.Marks.{Marks}
 use Rattle.session.specs.declared.state.Phase.{Phase}
 use Rattle.session.specs.declared.state.Phase.the-variants.{Fresh, Open, Ended, Shelved}
 use Rattle.session.specs.declared.state.Selection.{Selection}
 use Rattle.session.specs.declared.state.Selection.the-variants.{Nothing, Active, One, OpenFor}
 use Rattle.session.specs.Closing.{closes, closing-count}
-use Rattle.session.specs.Deciding.{Call, started-key, quiet, closing, open-act, start-at, start-act, count-act, usage-at, usage-act, ending, end-at, end-act}
+use Rattle.session.specs.Deciding.{Call, open-act, start-at, count-act, usage-at, ending, end-at}
 use Rattle.session.specs.Deciding.{changing, change-act, tick-act, intervene-act, push-act, finish-act, shelve-act, own-slip, timely, when-fresh, when-open, decide-in, decide, most-lines, largest-period}
 use Rattle.session.specs.Fit.{Fit, Known, Edit-within, Stop-within}
 use Rattle.session.specs.Performing.{edited}
-use Rattle.session.specs.Sound.{live, sound-line, sound-lines, volume-of-all, Bounded}
-use Rattle.session.specs.State.{State, no-line, line-at, place-of, place-from, trigger, can-fire, limit-met, is-urgent, with-volume, with-since, in-phase, volume-sum, counted, over-total, open-octets, started, new-line}
+use Rattle.session.specs.Sound.{live, sound-line, sound-lines, volume-of-all}
+use Rattle.session.specs.State.{State, no-line, line-at, place-of, trigger, can-fire, limit-met, volume-sum, counted, over-total, open-octets, started, new-line}
 use Rattle.session.proofs.Bounds.{bounds, bounds-hold, sound-parts, sound-from, sound-at, sound-set, sound-later, volume-set}
 use Rattle.session.proofs.Nothing.{none-close}
 use Rattle.session.proofs.Places.{place-within}

@@ -1,6 +1,6 @@
 -- Every request that a session hands over is well formed.
-use mathlib.Core.Path.{_≡_, refl, sym, ap, subst, _∙_}
-use mathlib.Core.List.{List, [], _∷_, _++_}
+use mathlib.Core.Path.{_≡_, refl}
+use mathlib.Core.List.{List, [], _∷_}
 use mathlib.Core.Bool.{Bool, true, false, cond, _&&_, _||_}
 use Prim.Native.Nat.{ℕ, _+_, _≤_}
 use native.Mathlib.Omega.{arith}
@@ -11,32 +11,30 @@ use Rattle.std.specs.declared.option.Option.the-variants.{Some, None}
 use Rattle.std.specs.declared.result.Result.{Result}
 use Rattle.std.specs.declared.result.Result.the-variants.{Ok, Err}
 use Rattle.std.proofs.shelf.Tests.{eq-eqb, and-parts, and-from, le-leb, ltb-false, cond-both}
-use Rattle.entries.specs.declared.entry.Entry.{Entry}
 use Rattle.entries.specs.declared.key.LineId.{LineId}
 use Rattle.entries.specs.declared.taker.Override.{Override}
 use Rattle.entries.specs.Columns.{Column}
 use Rattle.entries.specs.Entries.{initial, update, termination, service-line, qos-line, largest-32}
-use Rattle.entries.specs.Keys.{Coding, Of-lines, named}
+use Rattle.entries.specs.Keys.{Coding, Of-lines}
 use Rattle.entries.specs.Requests.{well-formed, head-formed, containers-formed}
 use Rattle.entries.specs.Triggers.{between}
 use Rattle.session.specs.declared.answer.Due.{Due}
 use Rattle.session.specs.declared.answer.NotMade.the-variants.{OutOfRange, NoMemory}
 use Rattle.session.specs.declared.answer.Opened.{Opened}
 use Rattle.session.specs.declared.answer.Refusal.{Refusal}
-use Rattle.session.specs.declared.answer.Refusal.the-variants.{TooLarge, WaitingFull, IntakeTooSmall}
+use Rattle.session.specs.declared.answer.Refusal.the-variants.{TooLarge, WaitingFull}
 use Rattle.session.specs.declared.event.Event.{Event}
 use Rattle.session.specs.declared.event.Event.the-variants.{Open as Opening, Start, Usage, End, Change, Tick, Intervene, Push, Finish, Shelve}
 use Rattle.session.specs.declared.state.Act.{Act}
-use Rattle.session.specs.Answers.{Answer}
 use Rattle.session.specs.Closing.{closes, closings}
-use Rattle.session.specs.Deciding.{Call, decide, decide-in}
+use Rattle.session.specs.Deciding.{Call, decide}
 use Rattle.session.specs.Fit.{Fit, Known}
 use Rattle.session.specs.Laws.{Well-formed, Requests-well-formed}
 use Rattle.session.specs.Performing.{Outcome, edited, acted, closed-by, no-place, head, head-of, offer-taken, reported, report-unless, reporting, all-waiting, finish-unless, finishing, shelving, opening, most-waiting, report-above}
 use Rattle.session.specs.Profiles.{in-range}
 use Rattle.session.specs.Sound.{live}
 use Rattle.session.specs.State.{State}
-use Rattle.session.specs.Steps.{Making, first-phase, as-made, Fed, answered, seen-event, seen, step, step-of}
+use Rattle.session.specs.Steps.{Making, first-phase, as-made, Fed, seen-event, seen, step, step-of}
 use Rattle.session.proofs.Acting.{acted-sane, acted-formed}
 use Rattle.session.proofs.Updates.{closings-count}
 use Rattle.session.proofs.Fair.{no-way}

@@ -17,7 +17,7 @@ use Rattle.session.specs.Deciding.{decide}
 use Rattle.session.specs.Laws.{Decides, Containers-follow-one-another, Numbered, Lawful, Does, Lends}
 use Rattle.session.specs.Performing.{Outcome, reporting, shelving}
 use Rattle.session.specs.State.{State}
-use Rattle.session.specs.Steps.{Making, as-made, Fed, fed, seen-event, seen, may-report, answered, step, Run, after, run}
+use Rattle.session.specs.Steps.{Making, as-made, Fed, fed, seen-event, seen, may-report, answered, step, Run, after}
 use Rattle.session.specs.Taking.{Comes}
 use Rattle.session.proofs.Fair.{no-way}
 use Rattle.session.proofs.Formed.{formed-requests, made-formed}

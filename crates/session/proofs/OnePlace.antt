@@ -1,7 +1,7 @@
 -- Every octet has one place; and what is charged does not depend on thresholds, profiles or takers.
 use mathlib.Core.Path.{_≡_, refl, sym, ap, ap₂, subst, _∙_}
 use mathlib.Core.List.{List, [], _∷_, _++_}
-use mathlib.Core.Bool.{Bool, true, false, cond, _&&_, _||_}
+use mathlib.Core.Bool.{Bool, true, false, cond, _&&_}
 use mathlib.Core.Logic.{_⊎_, inl, inr}
 use Prim.Native.Nat.{ℕ, _+_}
 use native.Mathlib.Omega.{arith}
@@ -16,7 +16,7 @@ use Rattle.entries.specs.declared.entry.Entry.{Entry}
 use Rattle.entries.specs.declared.key.LineId.{LineId}
 use Rattle.entries.specs.declared.method.Rule.{Rule}
 use Rattle.entries.specs.Columns.{Column, Tariff-fixed}
-use Rattle.entries.specs.Keys.{Coding, Distinct, named, same-line}
+use Rattle.entries.specs.Keys.{Coding, Distinct, same-line}
 use Rattle.entries.specs.Octets.{Direction, up, down, in-direction, in-book}
 use Rattle.entries.specs.Triggers.{tariff-time}
 use Rattle.session.specs.declared.answer.Refusal.{Refusal}
@@ -36,7 +36,7 @@ use Rattle.session.specs.Performing.{Outcome, reporting}
 use Rattle.session.specs.Profiles.{trigger-made}
 use Rattle.session.specs.State.{State, stopped}
 use Rattle.session.specs.Steps.{Making, as-made, Fed, answered, seen-event, seen, step, step-of, accepted, Run, after, run}
-use Rattle.session.proofs.Doing.{Stayed, Did, Sent, Kept, Done, step-does}
+use Rattle.session.proofs.Doing.{Did, Sent, Kept, Done, step-does}
 use Rattle.session.proofs.Fair.{Sound, Deed, deed, Silent, no-way, names, reported-by, next-phase, is-finish}
 use Rattle.session.proofs.Updates.{update, Apart, Idle, same-refl, same-true, same-test, apart-update, all-update, open-update, closings-move, all-closed, book-append, no-octets}
 

@@ -1,40 +1,39 @@
 -- Containers follow one another: their numbers, and where each begins.
 use mathlib.Core.Path.{_≡_, refl, sym, ap, ap₂, subst, _∙_}
 use mathlib.Core.List.{List, [], _∷_, _++_}
-use mathlib.Core.Bool.{Bool, true, false, cond, _&&_, _||_, not}
+use mathlib.Core.Bool.{Bool, true, false, cond, _&&_, _||_}
 use mathlib.Core.Logic.{_⊎_, inl, inr}
-use Prim.Native.Nat.{ℕ, suc, _+_, _≤_, _<_, _-_, max}
+use Prim.Native.Nat.{ℕ, suc, _+_, _≤_, _-_, max}
 use native.Mathlib.Omega.{arith}
-use lib.Dec.{eqb, leb, ltb}
 use lib.ListN.{length, drop}
 use Rattle.std.specs.declared.option.Option.{Option}
 use Rattle.std.specs.declared.option.Option.the-variants.{Some, None}
-use Rattle.std.specs.shelf.Lists.{All, kept-by}
+use Rattle.std.specs.shelf.Lists.{All}
 use Rattle.std.proofs.shelf.Lists.{append-nil, append-assoc, drop-at, drop-all, length-append}
 use Rattle.std.proofs.shelf.Elements.{kept-by-append}
 use Rattle.std.proofs.shelf.Tests.{and-parts, and-from}
 use Rattle.entries.specs.declared.entry.Entry.{Entry}
 use Rattle.entries.specs.declared.key.LineId.{LineId}
 use Rattle.entries.specs.Columns.{Column, Tariff-fixed}
-use Rattle.entries.specs.Keys.{Coding, Distinct, Of-lines, named, same-line}
+use Rattle.entries.specs.Keys.{Coding, Distinct, Of-lines, same-line}
 use Rattle.entries.specs.Octets.{line-of}
 use Rattle.entries.specs.Requests.{container-formed, containers-formed}
 use Rattle.session.specs.declared.event.Event.{Event}
 use Rattle.session.specs.declared.event.Event.the-variants.{Open as Opening, Start, Usage, End, Change, Tick, Intervene, Push, Finish, Shelve}
 use Rattle.session.specs.declared.state.Line.{Line}
 use Rattle.session.specs.Answers.{Answer}
-use Rattle.session.specs.Closing.{closes, container, restarted, closings, closing-count}
+use Rattle.session.specs.Closing.{closes, container, restarted, closings}
 use Rattle.session.specs.Deciding.{started-key}
-use Rattle.session.specs.Laws.{Decides, is-container, containers, Happening, started-at, closed-into, closed-in-call, noted-closings, noted-start, history, closed-in, Numbered, last-start, last-end, not-before, begins-at, Follows, All-follow, Containers-follow-one-another}
-use Rattle.session.specs.Performing.{Outcome, edited}
+use Rattle.session.specs.Laws.{Decides, is-container, containers, Happening, started-at, closed-into, closed-in-call, noted-closings, noted-start, history, closed-in, Numbered, last-start, last-end, not-before, begins-at, All-follow}
+use Rattle.session.specs.Performing.{Outcome}
 use Rattle.session.specs.State.{State, stopped}
-use Rattle.session.specs.Steps.{Making, as-made, Fed, seen-event, seen, step, accepted, Run, after, run}
+use Rattle.session.specs.Steps.{Making, as-made, Fed, seen-event, seen, step, accepted, Run, after}
 use Rattle.session.proofs.Acting.{acted-formed}
 use Rattle.session.proofs.Doing.{Stayed, Did, Sent, Kept, Done, step-does}
-use Rattle.session.proofs.Fair.{Sound, Deed, Fair, Since, names, started-line, starts, no-way, all-two}
+use Rattle.session.proofs.Fair.{Sound, Deed, Since, names, started-line, no-way, all-two}
 use Rattle.session.proofs.Fits.{act-fits}
 use Rattle.session.proofs.Formed.{Formed, formed-next, known-seen}
-use Rattle.session.proofs.OnePlace.{deed-of, lines-after, sound-after, made-sound, start-outside, agree}
+use Rattle.session.proofs.OnePlace.{deed-of, lines-after, sound-after, start-outside, agree}
 use Rattle.session.proofs.Updates.{is-line, any, update, Apart, closings-count, same-refl, same-sym, same-true, all-update, none-are}
 
 -- histories by the lines of keys

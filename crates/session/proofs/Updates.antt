@@ -1,12 +1,11 @@
 -- Lists of lines: what an update, a closing and a start leave of identities, open counts and books.
 use mathlib.Core.Path.{_≡_, refl, sym, ap, ap₂, subst, _∙_}
 use mathlib.Core.List.{List, [], _∷_, _++_}
-use mathlib.Core.Bool.{Bool, true, false, cond, _&&_, _||_, not}
-use Prim.Native.Nat.{ℕ, zero, suc, _+_, _-_, _≤_, _<_}
+use mathlib.Core.Bool.{Bool, true, false, cond, _&&_, _||_}
+use Prim.Native.Nat.{ℕ, zero, suc, _+_, _-_, _<_}
 use native.Mathlib.Omega.{arith}
-use lib.Dec.{eqb, leb, ltb}
+use lib.Dec.{eqb}
 use lib.ListN.{length, getD, set}
-use Rattle.std.specs.declared.option.Option.{Option}
 use Rattle.std.specs.declared.option.Option.the-variants.{Some, None}
 use Rattle.std.specs.shelf.Lists.{All}
 use Rattle.std.proofs.shelf.Elements.{all-weaker, all-getD}
@@ -18,7 +17,7 @@ use Rattle.entries.specs.Octets.{Direction, up, down, in-direction, octets-of, 
 use Rattle.session.specs.declared.state.Line.{Line}
 use Rattle.session.specs.Closing.{container, restarted, closings, closed-lines, closing-count}
 use Rattle.session.specs.Laws.{open-of, open-on}
-use Rattle.session.specs.State.{counted, no-line, place-from}
+use Rattle.session.specs.State.{counted, place-from}
 
 abbrev pub is-line : LineId → Line → Bool
 is-line k l = same-line (l .id) k

@@ -1,5 +1,4 @@
 -- Deciding: what an accepted call does, or why it is refused. Deciding changes nothing.
-use mathlib.Core.List.{List}
 use mathlib.Core.Bool.{Bool, true, false, cond, _&&_, _||_, not}
 use Prim.Native.Nat.{ℕ, _+_, _-_}
 use lib.Dec.{eqb, leb, ltb}

@@ -18,7 +18,6 @@ use Rattle.session.specs.declared.answer.Due.the-variants.{Nothing as NotDue}
 use Rattle.session.specs.declared.event.Event.{Event}
 use Rattle.session.specs.declared.event.Event.the-variants.{Open as Opening, Start, Usage, Change, Finish}
 use Rattle.session.specs.declared.state.Line.{Line}
-use Rattle.session.specs.declared.thresholds.Thresholds.{Thresholds}
 use Rattle.session.specs.Answers.{Answer, refused, opened, reported, sent}
 use Rattle.session.specs.Laws.{Lawful}
 use Rattle.session.specs.State.{State, open-octets}

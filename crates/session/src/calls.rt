@@ -1,7 +1,7 @@
 // Calls on a session without its method: each is decided, then performed, then reported. A refused call changes nothing.
 ghost use mathlib.Core.Path.{_≡_};
 ghost use mathlib.Core.Bool.{false};
-ghost use Prim.Native.Nat.{ℕ, _≤_};
+ghost use Prim.Native.Nat.{_≤_};
 ghost use Rattle.std.specs.Results.{isOk};
 ghost use Rattle.std.specs.declared.result.Result.the-variants.{Ok};
 ghost use Rattle.session.specs.declared.event.Event.the-variants.{Open as Opening, Finish as Finishing, Shelve as Shelving};

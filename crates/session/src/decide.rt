@@ -1,13 +1,13 @@
 // Deciding what a call does, or why it is refused. Nothing here changes a session.
 ghost use mathlib.Core.Path.{_≡_};
 ghost use mathlib.Core.Bool.{false};
-ghost use Prim.Native.Nat.{ℕ, _+_, _<_};
+ghost use Prim.Native.Nat.{_+_, _<_};
 ghost use lib.Dec.{leb};
 ghost use Rattle.std.specs.Of.Vec.{vec-len};
 ghost use Rattle.std.specs.Options.{Cases as BySome};
 ghost use Rattle.std.specs.declared.option.Option.the-variants.{Some, None};
-ghost use Rattle.session.specs.Deciding.{quiet, closing, open-act, start-at, start-act, count-act, usage-at, usage-act, ending, end-act};
-ghost use Rattle.session.specs.Deciding.{changes-full, changed-marks, changing, change-act, tick-act, intervene-act, push-act, finish-act, shelve-act, decide};
+ghost use Rattle.session.specs.Deciding.{quiet, closing, open-act, start-at, start-act, count-act, usage-act, ending, end-act};
+ghost use Rattle.session.specs.Deciding.{changes-full, changed-marks, changing, change-act, tick-act, intervene-act, finish-act, shelve-act, decide};
 ghost use Rattle.session.specs.Sound.{Bounded};
 ghost use Rattle.session.specs.State.{trigger, can-fire, limit-met, is-urgent, counted, over-total, open-octets, volume-sum, line-at, place-of};
 ghost use Rattle.session.specs.View.{view};

@@ -1,7 +1,7 @@
 // A session without its method: numbers, triggers, lines and waiting containers.
 ghost use mathlib.Core.Path.{_≡_};
 ghost use mathlib.Core.Bool.{true};
-ghost use Prim.Native.Nat.{ℕ, _≤_};
+ghost use Prim.Native.Nat.{_≤_};
 ghost use Rattle.std.specs.Of.Vec.{vec-items, vec-len, vec-cap};
 ghost use Rattle.entries.specs.Requests.{containers-formed};
 ghost use Rattle.session.specs.Sound.{live, sound-lines, volume-of-all};

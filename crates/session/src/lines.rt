@@ -1,7 +1,7 @@
 // Lists of lines: finding one, and closing several into containers.
 ghost use mathlib.Core.Path.{_≡_};
 ghost use mathlib.Core.List.{_++_};
-ghost use Prim.Native.Nat.{ℕ, _+_, _≤_, _<_};
+ghost use Prim.Native.Nat.{_+_, _≤_, _<_};
 ghost use lib.ListN.{length, getD};
 ghost use Rattle.entries.specs.Keys.{same-line};
 ghost use Rattle.std.specs.Of.Vec.{vec-items, vec-len, vec-cap};

@@ -1,8 +1,6 @@
 // Making a session: all the memory that its calls will need is reserved here.
 ghost use mathlib.Core.Path.{_≡_};
 ghost use mathlib.Core.Bool.{false};
-ghost use mathlib.Core.List.{[]};
-ghost use Prim.Native.Nat.{ℕ};
 ghost use Rattle.std.specs.Vec.{made};
 ghost use Rattle.session.specs.declared.state.Phase.the-variants.{Fresh as FreshPhase, Shelved as ShelvedPhase};
 ghost use Rattle.session.specs.Steps.{Made, before-calls};

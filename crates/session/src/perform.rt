@@ -1,8 +1,8 @@
 // Performing what was decided, and handing over what it makes due.
 ghost use mathlib.Core.Path.{_≡_};
-ghost use mathlib.Core.Bool.{Bool, true, false};
+ghost use mathlib.Core.Bool.{true, false};
 ghost use mathlib.Core.List.{_∷_, _++_};
-ghost use Prim.Native.Nat.{ℕ, _+_, _≤_};
+ghost use Prim.Native.Nat.{_+_, _≤_};
 ghost use lib.ListN.{length};
 ghost use Rattle.entries.specs.Requests.{head-formed};
 ghost use Rattle.std.specs.Of.Vec.{vec-items, vec-len, vec-cap};

@@ -3,7 +3,7 @@ ghost use mathlib.Core.Path.{_≡_};
 ghost use mathlib.Core.Bool.{true, false};
 ghost use mathlib.Core.List.{[]};
 ghost use Rattle.std.specs.Results.{isOk};
-ghost use Rattle.std.specs.Vec.{made, refused};
+ghost use Rattle.std.specs.Vec.{refused};
 ghost use Rattle.session.specs.declared.event.Event.the-variants.{Open as Opening, Start as Starting, Usage as Reporting, End as Ending, Change as Changing, Tick as Ticking};
 ghost use Rattle.session.specs.declared.event.Event.the-variants.{Intervene as Intervening, Push as Pushing, Finish as Finishing, Shelve as Shelving};
 ghost use Rattle.session.specs.Answers.{told-opening, told-report, told-finish, told-shelving};

@@ -1,8 +1,7 @@
 use mathlib.Core.Path.{_≡_}
-use Prim.Native.Nat.{_+_, _≤_}
-use lib.ListN.{length, drop}
+use Prim.Native.Nat.{_+_}
 use Rattle.std.specs.Of.Vec.{vec-items, vec-len, vec-cap}
-use Rattle.session.specs.Closing.{closes, closing-count}
+use Rattle.session.specs.Closing.{closes}
 use Rattle.session.proofs.Turns.{Turn}
 use Rattle.session.proofs.lines.close_lines.Given as given
 

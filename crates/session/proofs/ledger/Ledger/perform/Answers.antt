@@ -1,14 +1,14 @@
 use mathlib.Core.Path.{_≡_, sym, _∙_, ap, subst}
 use mathlib.Core.Bool.{Bool}
 use mathlib.Core.List.{_++_}
-use Prim.Native.Nat.{_+_, _≤_}
+use Prim.Native.Nat.{_+_}
 use native.Mathlib.Omega.{arith}
 use Rattle.std.specs.Of.Vec.{vec-items}
 use Rattle.entries.specs.Requests.{containers-formed}
 use Rattle.session.specs.declared.state.Line.{Line}
 use Rattle.session.specs.Closing.{closes, closing-count, closed-lines, closings}
 use Rattle.session.specs.Fit.{Stop-within}
-use Rattle.session.specs.Performing.{edited, stopped-at, acted}
+use Rattle.session.specs.Performing.{stopped-at, acted}
 use Rattle.session.specs.Sound.{sound-lines, volume-of-all}
 use Rattle.session.specs.View.{view}
 use Rattle.session.proofs.Acting.{acted-is, acted-sane, acted-formed, stop-within}

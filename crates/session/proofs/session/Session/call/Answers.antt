@@ -1,4 +1,3 @@
-use mathlib.Core.Path.{refl}
 use mathlib.Core.List.{[]}
 use Rattle.session.specs.Answers.{told-report}
 use Rattle.session.specs.Steps.{fed}

@@ -1,5 +1,4 @@
 use mathlib.Core.Path.{refl}
-use mathlib.Core.List.{[]}
 use Rattle.session.specs.declared.event.Event.the-variants.{Open as Opening}
 use Rattle.session.specs.Answers.{told-opening}
 use Rattle.session.specs.Steps.{fed}
