@@ -1,4 +1,6 @@
 // A list of starts and usage reports on a session, for programs that are not written in Rattle.
+#![tactic(auto)]
+
 ghost use Rattle.std.specs.Prelude.{◌≡◌, Bool, false};
 ghost use Rattle.session.specs.declared.state.Phase.TheVariants.{Open as OpenPhase};
 ghost use Rattle.session.specs.Steps.{accepted};

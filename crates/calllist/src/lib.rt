@@ -1,4 +1,6 @@
 // Call lists as text, and how they are run on a session.
+#![tactic(auto)]
+
 pub mod answer;
 pub mod command;
 pub mod input;

@@ -1,4 +1,6 @@
 // A short session on a book. Prints the book.
+#![tactic(auto)]
+
 use entries::book::*;
 use entries::entry::*;
 use entries::taker::*;

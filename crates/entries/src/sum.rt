@@ -51,8 +51,8 @@ fn counts_for(e: &Entry, line: LineId, period: u16) -> bool
 
 // The octets of a line and a tariff period.
 fn add_up(entries: &[Entry], line: LineId, period: u16) -> Octets
-    requires entries_len_bound { length entries.now ≤ most_summed }
-    requires all { All Within entries.now }
+    requires short { length entries.now ≤ most_summed }
+    requires within { All Within entries.now }
     ensures { result ≡ line_octets entries.now line period }
 {
     let mut uplink = 0;
@@ -71,7 +71,7 @@ fn add_up(entries: &[Entry], line: LineId, period: u16) -> Octets
 
 // The octets of a key and a tariff period in a book of at most 32,768 entries, which are well-formed requests.
 pub fn sum<K: LineKey>(book: &[Entry], key: &K, period: u16) -> Result<Octets, Unsummed>
-    ensures { result ≡ summed coding book.now key.now period }
+    ensures { result ≡ summed K.coding book.now key.now period }
 {
     if book.len() > MOST_SUMMED {
         return Err(Unsummed::TooManyEntries);

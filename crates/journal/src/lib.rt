@@ -1,3 +1,5 @@
+#![tactic(auto)]
+
 mod codec;
 pub mod fault;
 pub mod journal;

@@ -1,5 +1,7 @@
 // A short session on a journal over a link. Reads the journal back, and prints its entries and the
 // octets of the line in each tariff period.
+#![tactic(auto)]
+
 use entries::entry::*;
 use entries::key::*;
 use entries::link::*;

@@ -1,4 +1,6 @@
 // The program replay once more, for its stored run of makings that are refused.
+#![tactic(auto)]
+
 use calllist::play::Ended;
 use calllist::run::replay;
 

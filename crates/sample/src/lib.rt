@@ -1,5 +1,7 @@
 // A short session, for programs that show it on a charging function of their own: converged, charging id 7, a line, two usage
 // reports around a tariff change, and the end.
+#![tactic(auto)]
+
 use entries::entry::*;
 use entries::key::*;
 use entries::method::*;

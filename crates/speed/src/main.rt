@@ -1,5 +1,7 @@
 // Counts usage reports on a session, to measure what a report costs that closes nothing: so many lines, so many reports, from
 // the arguments. Prints how many reports were accepted.
+#![tactic(auto)]
+
 use entries::book::*;
 use entries::entry::*;
 use entries::key::*;

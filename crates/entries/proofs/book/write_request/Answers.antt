@@ -5,4 +5,4 @@ use Rattle.entries.proofs.book.write_request.Goals as goal
 pub returns : goal.returns
 returns c =
     written_first c.args.table.now c.args.at _ _ c.args.containers.now _ (omega arith)
-    c.copy-from-slice.ensures.after (omega arith)
+    c.copy_from_slice.ensures.after (omega arith)

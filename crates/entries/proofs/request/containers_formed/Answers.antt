@@ -10,13 +10,13 @@ formed_more : (es : List Entry) (i : ℕ) (d : Entry) (r : Bool) → i < length 
 formed_more es i d r h e =
     at_drop_more containers_formed es i d h ∙ ap (λ b. b && containers_formed (drop (i + 1) es)) (sym e)
 
-pub returns-then-not-container-formed : goal.returns-then-not-container-formed
-returns-then-not-container-formed c =
-    sym (formed_more _ _ _ _ c.loop-e-test.true c.if-not-container-formed.ensures) ∙ c.loop-e.invariant
+pub returns-then-not-container_formed : goal.returns-then-not-container_formed
+returns-then-not-container_formed c =
+    sym (formed_more _ _ _ _ c.loop-e-test.true c.if-not-container_formed.ensures) ∙ c.loop-e.invariant
 
 pub loop-e-preserved : goal.loop-e-preserved
 loop-e-preserved c =
-    sym (formed_more _ _ _ _ c.loop-e-test.true c.if-not-container-formed.ensures) ∙ c.loop-e.invariant
+    sym (formed_more _ _ _ _ c.loop-e-test.true c.if-not-container_formed.ensures) ∙ c.loop-e.invariant
 
 pub returns : goal.returns
 returns c = sym (at_drop_all containers_formed _ _ c.loop-e-test.false) ∙ c.loop-e.invariant

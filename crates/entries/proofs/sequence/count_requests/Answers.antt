@@ -5,18 +5,18 @@ use Rattle.entries.proofs.SequenceLaws.{judged, judged_once, judge_more, begun_h
 use Rattle.entries.proofs.sequence.count_requests.Goals as goal
 use Rattle.entries.proofs.sequence.count_requests.Goals.{then-due-eq0, else-due-eq0}
 
-pub returns-then-not-goes-on : goal.returns-then-not-goes-on
-returns-then-not-goes-on c =
+pub returns-then-not-goes_on : goal.returns-then-not-goes_on
+returns-then-not-goes_on c =
     let es = c.args.entries.now in
     let e : Err c.loop-i.i ≡ requests_in es =
-    sym (judge_more es c.loop-i.i c.loop-i.due c.loop-i.begun _ _ _ c.loop-i-test.true refl c.if-not-goes-on.ensures)
+    sym (judge_more es c.loop-i.i c.loop-i.due c.loop-i.begun _ _ _ c.loop-i-test.true refl c.if-not-goes_on.ensures)
     ∙ c.loop-i.invariant.1 in
     record { value = e; meaning = judged es (Err c.loop-i.i) e; only = λ s j. judged_once es s j ∙ sym e }
 
 pub loop-i-preserved : goal.loop-i-preserved
 loop-i-preserved c =
     let es = c.args.entries.now in
-    let s = judge_more es c.loop-i.i c.loop-i.due c.loop-i.begun _ _ _ c.loop-i-test.true refl c.if-not-goes-on.ensures in
+    let s = judge_more es c.loop-i.i c.loop-i.due c.loop-i.begun _ _ _ c.loop-i-test.true refl c.if-not-goes_on.ensures in
     let b : c.if-due-eq0.begun ≡ begun_with c.loop-i.due c.loop-i.begun =
     elim c.if-due-eq0.branch [
       | then-due-eq0 w ↦ begun_head c.loop-i.due _ _ w.if-due-eq0.true w.begun-is

@@ -15,9 +15,9 @@ returns c =
     let room = room_inside b.live (length b.table.now) b.used (length c.args.containers.now) (omega arith) in
     record {
       answer = grind (arith, nat_tests);
-      after = ap (take _) c.write-request.ensures
+      after = ap (take _) c.write_request.ensures
           ∙ take_written c.args.self.now.table.now c.args.self.now.used (c.args.head.now ∷ c.args.containers.now) _
           (omega (arith, room)) (omega arith);
-      memory = λ _. record { table = c.write-request.ensures; used = omega arith; live = refl; overrides = refl };
+      memory = λ _. record { table = c.write_request.ensures; used = omega arith; live = refl; overrides = refl };
       declined = λ e. absurd (true≢false e);
     }
