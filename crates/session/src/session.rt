@@ -149,8 +149,8 @@ impl<M: Method> Session<M> {
         t: u32,
         function: &mut F,
     ) -> Result<(Opened, Slip), Refusal>
-        ensures does { Does Key-as-LineKey.coding M.Method.column (view self.old.ledger) (fed Opening 0 t (F.Taker.room function.old) (F.ChargingFunction.profile function.old)) (told_opening (slip_aside result)) (view self.new.ledger) }
-        ensures lends { Lends (step M.Method.column (view self.old.ledger) (seen Key-as-LineKey.coding (fed Opening 0 t (F.Taker.room function.old) (F.ChargingFunction.profile function.old)))).added F.Taker.book F.Taker.took function.old function.new }
+        ensures does { Does M.Key.LineKey.coding M.Method.column (view self.old.ledger) (fed Opening 0 t (F.Taker.room function.old) (F.ChargingFunction.profile function.old)) (told_opening (slip_aside result)) (view self.new.ledger) }
+        ensures lends { Lends (step M.Method.column (view self.old.ledger) (seen M.Key.LineKey.coding (fed Opening 0 t (F.Taker.room function.old) (F.ChargingFunction.profile function.old)))).added F.Taker.book F.Taker.took function.old function.new }
         ensures handed { slip_handed self.old.ledger.id result }
         ensures refused { is_ok result ≡ false → (self.new ≡ self.old) × (function.new ≡ function.old) }
     {

@@ -7,4 +7,4 @@ pub returns : goal.returns
 unfolding be
 returns c =
     written_part c.args.out.now c.args.at _ (be 2 c.args.n) _
-    (c.copy-from-slice.ensures.after ∙ (c.to-be-bytes.ensures ∙ simp div-one)) (omega arith)
+    (c.copy_from_slice.ensures.after ∙ (c.to_be_bytes.ensures ∙ simp div-one)) (omega arith)

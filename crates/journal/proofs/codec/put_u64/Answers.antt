@@ -9,6 +9,6 @@ returns c =
     record {
       bytes =
           written_part c.args.out.now c.args.at _ (be 8 c.args.n) _
-          (c.copy-from-slice.ensures.after ∙ (c.to-be-bytes.ensures ∙ simp div-one)) (omega arith);
+          (c.copy_from_slice.ensures.after ∙ (c.to_be_bytes.ensures ∙ simp div-one)) (omega arith);
       fits = omega arith;
     }

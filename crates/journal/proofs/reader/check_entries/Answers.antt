@@ -6,18 +6,18 @@ use Rattle.journal.proofs.ReadingLaws.{judge_step}
 use Rattle.journal.proofs.reader.check_entries.Goals as goal
 use Rattle.journal.proofs.reader.check_entries.Goals.{then-due-eq0, else-due-eq0}
 
-pub returns-then-not-goes-on : goal.returns-then-not-goes-on
-returns-then-not-goes-on c =
+pub returns-then-not-goes_on : goal.returns-then-not-goes_on
+returns-then-not-goes_on c =
     let i = c.loop-i.i in
-    sym (judge_step entry_size entry_of c.args.bytes.now c.args.n i c.entry-offset.result (entry_offset i) (entry_offset (i + 1)) c.loop-i.due c.loop-i.begun _ _ _
-    c.loop-i-test.true refl c.entry-offset.ensures (omega arith) c.read-entry-e.ensures c.if-not-goes-on.ensures)
+    sym (judge_step entry_size entry_of c.args.bytes.now c.args.n i c.entry_offset.result (entry_offset i) (entry_offset (i + 1)) c.loop-i.due c.loop-i.begun _ _ _
+    c.loop-i-test.true refl c.entry_offset.ensures (omega arith) c.read_entry-e.ensures c.if-not-goes_on.ensures)
     ∙ c.loop-i.invariant.1
 
 pub loop-i-preserved : goal.loop-i-preserved
 loop-i-preserved c =
     let i = c.loop-i.i in
-    let s = judge_step entry_size entry_of c.args.bytes.now c.args.n i c.entry-offset.result (entry_offset i) (entry_offset (i + 1)) c.loop-i.due c.loop-i.begun _ _ _
-    c.loop-i-test.true refl c.entry-offset.ensures (omega arith) c.read-entry-e.ensures c.if-not-goes-on.ensures in
+    let s = judge_step entry_size entry_of c.args.bytes.now c.args.n i c.entry_offset.result (entry_offset i) (entry_offset (i + 1)) c.loop-i.due c.loop-i.begun _ _ _
+    c.loop-i-test.true refl c.entry_offset.ensures (omega arith) c.read_entry-e.ensures c.if-not-goes_on.ensures in
     let b : c.if-due-eq0.begun ≡ begun_with c.loop-i.due c.loop-i.begun =
     elim c.if-due-eq0.branch [
       | then-due-eq0 w ↦ begun_head c.loop-i.due _ _ w.if-due-eq0.true w.begun-is

@@ -15,8 +15,8 @@ pub loop-e-preserved : goal.loop-e-preserved
 loop-e-preserved c = (
   omega arith,
   append_more c.args.bytes.now c.args.at c.args.es.now c.loop-e.e-index _ _ _ _
-      c.loop-e-test.true (omega arith) c.loop-e.invariant.1 c.loop-e.invariant.0 c.write-at.ensures.bytes,
-  All-more EntryFits c.args.es.now c.loop-e.e-index _ c.loop-e-test.true c.loop-e.invariant.2 c.write-at.ensures.fits,
+      c.loop-e-test.true (omega arith) c.loop-e.invariant.1 c.loop-e.invariant.0 c.write_at.ensures.bytes,
+  All-more EntryFits c.args.es.now c.loop-e.e-index _ c.loop-e-test.true c.loop-e.invariant.2 c.write_at.ensures.fits,
 )
 
 pub returns : goal.returns

@@ -4,6 +4,6 @@ use Rattle.journal.proofs.writing.write_at.Goals as goal
 
 pub returns : goal.returns
 returns c = record {
-  bytes = written_tail c.args.bytes.now c.args.at _ _ (omega arith) c.write-entry.ensures.bytes;
-  fits = c.write-entry.ensures.fits;
+  bytes = written_tail c.args.bytes.now c.args.at _ _ (omega arith) c.write_entry.ensures.bytes;
+  fits = c.write_entry.ensures.fits;
 }

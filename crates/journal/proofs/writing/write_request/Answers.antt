@@ -6,6 +6,6 @@ pub returns : goal.returns
 returns c = record {
   bytes =
       request_grown c.args.bytes.now c.args.entries c.args.requests c.args.head.now c.args.containers.now _ _ _ _
-      (omega arith) c.entry-offset-free.ensures c.write-at.ensures.bytes c.write-all-at.ensures.bytes c.write-header.ensures;
-  fits = (c.write-at.ensures.fits, c.write-all-at.ensures.fits);
+      (omega arith) c.entry_offset-free.ensures c.write_at.ensures.bytes c.write_all_at.ensures.bytes c.write_header.ensures;
+  fits = (c.write_at.ensures.fits, c.write_all_at.ensures.fits);
 }

@@ -5,14 +5,14 @@ use Rattle.session.specs.Closing.{closes, closing_count}
 use Rattle.session.proofs.Nothing.{none_close}
 use Rattle.session.proofs.Turns.{count_at}
 use Rattle.session.proofs.lines.count_closing.Goals as goal
-use Rattle.session.proofs.lines.count_closing.Goals.{then-is-chosen, else-is-chosen}
+use Rattle.session.proofs.lines.count_closing.Goals.{then-is_chosen, else-is_chosen}
 
 pub loop-line-preserved : goal.loop-line-preserved
 loop-line-preserved c =
     let p : Line → Bool = closes c.args.chosen c.args.t in
-    elim c.if-is-chosen.branch [
-      | then-is-chosen w ↦ let k = count_at p _ _ _ _ c.loop-line-test.true w.if-is-chosen.ensures in (omega (arith, w.n-is), omega (arith, w.n-is, k))
-      | else-is-chosen w ↦ let k = count_at p _ _ _ _ c.loop-line-test.true w.if-is-chosen.ensures in (omega (arith, w.n-is), omega (arith, w.n-is, k))
+    elim c.if-is_chosen.branch [
+      | then-is_chosen w ↦ let k = count_at p _ _ _ _ c.loop-line-test.true w.if-is_chosen.ensures in (omega (arith, w.n-is), omega (arith, w.n-is, k))
+      | else-is_chosen w ↦ let k = count_at p _ _ _ _ c.loop-line-test.true w.if-is_chosen.ensures in (omega (arith, w.n-is), omega (arith, w.n-is, k))
     ]
 
 pub returns : goal.returns

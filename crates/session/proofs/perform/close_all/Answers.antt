@@ -9,17 +9,17 @@ use Rattle.session.proofs.perform.close_all.Goals as goal
 pub returns : goal.returns
 returns c =
     let p : Line → Bool = closes c.args.chosen c.args.t in
-    let v = c.deref-mut.ensures.value in
-    let e : c.close-lines.new.lines ≡ closed_lines p c.args.t (vec_items c.args.lines.now) = c.close-lines.ensures.after ∙ ap (closed_lines p c.args.t) v in
+    let v = c.deref_mut.ensures.value in
+    let e : c.close_lines.new.lines ≡ closed_lines p c.args.t (vec_items c.args.lines.now) = c.close_lines.ensures.after ∙ ap (closed_lines p c.args.t) v in
     let n = length_closed p c.args.t (vec_items c.args.lines.now) in
     record {
-      count = c.close-lines.ensures.count ∙ ap (λ ls. c.args.done + closing_count p ls) v;
-      after = with_items_is c.args.lines.now c.close-lines.new.lines (omega (arith, ap length e, n, c.args.lines.now.ok.0)) ∙ e;
+      count = c.close_lines.ensures.count ∙ ap (λ ls. c.args.done + closing_count p ls) v;
+      after = with_items_is c.args.lines.now c.close_lines.new.lines (omega (arith, ap length e, n, c.args.lines.now.ok.0)) ∙ e;
       long = refl;
       kept = refl;
-      appended = c.close-lines.ensures.appended ∙ ap (λ ls. vec_items c.args.waiting.now ++ closings p c.args.cause c.args.period c.args.t c.args.done ls) v;
-      longer = c.close-lines.ensures.longer ∙ ap (λ ls. vec_len c.args.waiting.now + closing_count p ls) v;
-      reserved = c.close-lines.ensures.reserved;
+      appended = c.close_lines.ensures.appended ∙ ap (λ ls. vec_items c.args.waiting.now ++ closings p c.args.cause c.args.period c.args.t c.args.done ls) v;
+      longer = c.close_lines.ensures.longer ∙ ap (λ ls. vec_len c.args.waiting.now + closing_count p ls) v;
+      reserved = c.close_lines.ensures.reserved;
     }
 
 pub returns-in-Nothing : goal.returns-in-Nothing

@@ -1,18 +1,18 @@
 use Rattle.std.proofs.Common.{◌-◌, true, false, ◌∙◌, arith}
 use Rattle.session.proofs.Overrides.{turn_some, turn_past, turn_all}
 use Rattle.session.proofs.profile.apply.Goals as goal
-use Rattle.session.proofs.profile.apply.Goals.{in-Some+then-apply-one, in-Some+else-apply-one, in-default}
+use Rattle.session.proofs.profile.apply.Goals.{in-Some+then-apply_one, in-Some+else-apply_one, in_default}
 
 pub loop-i-preserved : goal.loop-i-preserved
 loop-i-preserved g c =
-    elim c.match-override-at.branch [
-      | in-Some+then-apply-one w ↦
-          turn_some w.in-Some.o _ true w.in-Some.ensures.value c.override-at.ensures.few w.rule.ensures w.if-apply-one.ensures.answer
-          (w.settings-is ∙ w.apply-one.ensures.after) w.applied-is w.seen-is c.loop-i.invariant
-      | in-Some+else-apply-one w ↦
-          turn_some w.in-Some.o _ false w.in-Some.ensures.value c.override-at.ensures.few w.rule.ensures w.if-apply-one.ensures.answer
-          (w.settings-is ∙ w.apply-one.ensures.after) (omega (arith, w.applied-is)) w.seen-is c.loop-i.invariant
-      | in-default w ↦ turn_past w.in-default.ensures.value c.override-at.ensures.few w.settings-is w.applied-is w.seen-is c.loop-i.invariant
+    elim c.match-override_at.branch [
+      | in-Some+then-apply_one w ↦
+          turn_some w.in-Some.o _ true w.in-Some.ensures.value c.override_at.ensures.few w.rule.ensures w.if-apply_one.ensures.answer
+          (w.settings-is ∙ w.apply_one.ensures.after) w.applied-is w.seen-is c.loop-i.invariant
+      | in-Some+else-apply_one w ↦
+          turn_some w.in-Some.o _ false w.in-Some.ensures.value c.override_at.ensures.few w.rule.ensures w.if-apply_one.ensures.answer
+          (w.settings-is ∙ w.apply_one.ensures.after) (omega (arith, w.applied-is)) w.seen-is c.loop-i.invariant
+      | in_default w ↦ turn_past w.in_default.ensures.value c.override_at.ensures.few w.settings-is w.applied-is w.seen-is c.loop-i.invariant
     ]
 
 pub returns : goal.returns

@@ -19,18 +19,18 @@ returns c =
     record {
       answer = grind (arith, nat_tests);
       after =
-          ap (λ m. book_in m c.write-request.new.bytes) k
-          ∙ (ap (book_in (n + length es)) c.write-request.ensures.bytes
-          ∙ entries_grown bs n j.requests es (omega (arith, fits.2)) c.write-request.ensures.fits);
+          ap (λ m. book_in m c.write_request.new.bytes) k
+          ∙ (ap (book_in (n + length es)) c.write_request.ensures.bytes
+          ∙ entries_grown bs n j.requests es (omega (arith, fits.2)) c.write_request.ensures.fits);
       memory = λ _. record {
-        bytes = c.write-request.ensures.bytes;
+        bytes = c.write_request.ensures.bytes;
         requests = refl;
         containers_taken = refl;
         live = refl;
         overrides = refl;
-        formed = sym c.if-not-request-formed.ensures;
+        formed = sym c.if-not-request_formed.ensures;
         room = room;
-        fit = c.write-request.ensures.fits;
+        fit = c.write_request.ensures.fits;
       };
       declined = λ e. absurd (true≢false e);
     }

@@ -14,4 +14,4 @@ pub returns : goal.returns
 returns c =
     let bs = c.args.self.now.body.now in
     let h : c.args.i < length bs / entry_size = omega arith in
-    ap or_past_end (ap Some (c.read-entry.ensures ∙ ap entry_of (take_rest bs (entry_size * c.args.i))) ∙ sym (nth_by entry_size entry_of (length bs / entry_size) c.args.i bs h))
+    ap or_past_end (ap Some (c.read_entry.ensures ∙ ap entry_of (take_rest bs (entry_size * c.args.i))) ∙ sym (nth_by entry_size entry_of (length bs / entry_size) c.args.i bs h))

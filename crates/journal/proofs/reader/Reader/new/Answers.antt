@@ -7,9 +7,9 @@ use Rattle.journal.proofs.reader.Reader.new.Goals as goal
 
 pub returns : goal.returns
 returns c = record {
-  value = c.open-bytes.ensures;
+  value = c.open_bytes.ensures;
   meaning =
-      answer_meant c.args.bytes.now (All-from_get_or (λ b. b < 256) c.args.bytes.now 0 (λ i l. omega (arith, c.type-inv.bytes i)))
-      (answer c.open-bytes.result) c.open-bytes.ensures;
-  complete = λ es fit g. c.open-bytes.ensures ∙ journal_read c.args.bytes.now es fit g;
+      answer_meant c.args.bytes.now (All-from_get_or (λ b. b < 256) c.args.bytes.now 0 (λ i l. omega (arith, c.type_inv.bytes i)))
+      (answer c.open_bytes.result) c.open_bytes.ensures;
+  complete = λ es fit g. c.open_bytes.ensures ∙ journal_read c.args.bytes.now es fit g;
 }

@@ -3,4 +3,4 @@ use Rattle.session.proofs.ledger.Ledger.call.Goals as goal
 
 pub settle-requires : goal.settle-requires
 settle-requires g c =
-    decided_fits c.count-if-quiet.new.self c.args.event c.requires 0 c.args.t c.in-ok-act.act c.in-ok-act.ensures
+    decided_fits c.count_if_quiet.new.self c.args.event c.requires 0 c.args.t c.in_ok-act.act c.in_ok-act.ensures

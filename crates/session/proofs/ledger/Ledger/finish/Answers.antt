@@ -4,5 +4,5 @@ use Rattle.session.proofs.ledger.Ledger.finish.Goals as goal
 
 pub end-requires : goal.end-requires
 end-requires g c =
-    decided_fits c.args.self.now (Finish c.args.cause) tt c.args.slip c.args.t c.in-ok-act.act
-    c.in-ok-act.ensures
+    decided_fits c.args.self.now (Finish c.args.cause) tt c.args.slip c.args.t c.in_ok-act.act
+    c.in_ok-act.ensures

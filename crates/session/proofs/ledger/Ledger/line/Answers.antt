@@ -7,8 +7,8 @@ use Rattle.session.proofs.ledger.Ledger.line.Goals as goal
 
 pub returns : goal.returns
 returns c =
-    let e : c.line-at.result ≡ line_at (view c.args.self.now) c.args.i =
-    c.line-at.ensures ∙ ap (λ ls. get_or ls c.args.i no_line) c.deref.ensures.value in
+    let e : c.line_at.result ≡ line_at (view c.args.self.now) c.args.i =
+    c.line_at.ensures ∙ ap (λ ls. get_or ls c.args.i no_line) c.deref.ensures.value in
     record {
       read = e;
       bounded =

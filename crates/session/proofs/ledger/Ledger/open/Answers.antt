@@ -6,9 +6,9 @@ use Rattle.session.proofs.ledger.Ledger.open.Goals as goal
 
 pub begin-requires : goal.begin-requires
 begin-requires g c =
-    let e = c.in-ok-act.ensures in
+    let e = c.in_ok-act.ensures in
     record {
-      fit = decided_fits c.args.self.now Opening tt 0 c.args.t c.in-ok-act.act e;
-      none = opening_closes_none (view c.args.self.now) 0 c.args.t c.in-ok-act.act e;
+      fit = decided_fits c.args.self.now Opening tt 0 c.args.t c.in_ok-act.act e;
+      none = opening_closes_none (view c.args.self.now) 0 c.args.t c.in_ok-act.act e;
       room = omega (arith, c.intake.ensures, c.if-intake-lt1.false);
     }

@@ -9,60 +9,49 @@ use Rattle.session.specs.View.{view}
 use Rattle.session.proofs.Acting.{acted_is, acted_sane, acted_formed, stop_within}
 use Rattle.session.proofs.ledger.Ledger.perform.Goals as goal
 
-pub stop-line-requires : goal.stop-line-requires
-stop-line-requires c = record {
+pub stop_line-requires : goal.stop_line-requires
+stop_line-requires c = record {
   within = subst (StopWithin c.args.act.stop)
-      (sym (c.close-all-closed.ensures.after
-      ∙ ap (closed_lines (closes c.args.act.chosen c.args.t) c.args.t) c.edit-lines.ensures.after))
+      (sym (c.close_all-closed.ensures.after
+      ∙ ap (closed_lines (closes c.args.act.chosen c.args.t) c.args.t) c.edit_lines.ensures.after))
       (stop_within (view c.args.self.now) c.args.act c.args.t c.requires.fit);
 }
 
-pub invariant-of-self : goal.invariant-of-self
-invariant-of-self c =
+pub invariant_of-self : goal.invariant_of-self
+invariant_of-self c =
     let s = view c.args.self.now in
     let p : Line → Bool = closes c.args.act.chosen c.args.t in
-    let k = ap (closing_count p) c.edit-lines.ensures.after in
+    let k = ap (closing_count p) c.edit_lines.ensures.after in
     let sane = acted_sane s c.args.act c.args.t c.requires.fit in
-    let lines : vec_items c.stop-line.new.lines ≡ (acted s c.args.act c.args.t).lines =
-    c.stop-line.ensures.after
-    ∙ ap (stopped_at c.args.act.stop) (c.close-all-closed.ensures.after ∙ ap (closed_lines p c.args.t) c.edit-lines.ensures.after) in
-    let waiting : vec_items c.close-all-closed.new.waiting ≡ (acted s c.args.act c.args.t).waiting =
-    c.close-all-closed.ensures.appended
-    ∙ ap (λ ls. s.waiting ++ closings p c.args.act.cause s.marks.period c.args.t s.closed ls) c.edit-lines.ensures.after in
+    let lines : vec_items c.stop_line.new.lines ≡ (acted s c.args.act c.args.t).lines =
+    c.stop_line.ensures.after
+    ∙ ap (stopped_at c.args.act.stop) (c.close_all-closed.ensures.after ∙ ap (closed_lines p c.args.t) c.edit_lines.ensures.after) in
+    let waiting : vec_items c.close_all-closed.new.waiting ≡ (acted s c.args.act c.args.t).waiting =
+    c.close_all-closed.ensures.appended
+    ∙ ap (λ ls. s.waiting ++ closings p c.args.act.cause s.marks.period c.args.t s.closed ls) c.edit_lines.ensures.after in
     let line-room = c.args.self.now.line_room c.requires.fit.alive in
-    let waiting-room = c.args.self.now.waiting_room c.requires.fit.alive in (
-      (λ _. omega (arith, line-room)),
-      (
-        (λ _. omega (arith, waiting-room)),
-        (
-          omega (arith, c.close-all-closed.ensures.count, k, c.requires.fit.count, c.requires.numbers),
-          (
-            omega arith,
-            (
-              omega (arith, c.close-all-closed.ensures.longer, k, c.requires.fit.count, c.requires.space, c.args.self.now.waiting.ok.0),
-              (
-                ap (sound_lines c.args.t) lines ∙ sane.sound,
-                (
-                  ap containers_formed waiting ∙ acted_formed s c.args.act c.args.t c.requires.fit c.args.self.now.formed,
-                  (omega (arith, ap volume_of_all lines, sane.counted), tt),
-                ),
-              ),
-            ),
-          ),
-        ),
-      ),
-    )
+    let waiting-room = c.args.self.now.waiting_room c.requires.fit.alive in
+    record {
+      line_room = λ _. omega (arith, line-room);
+      waiting_room = λ _. omega (arith, waiting-room);
+      numbered = omega (arith, c.close_all-closed.ensures.count, k, c.requires.fit.count, c.requires.numbers);
+      few = omega arith;
+      short = omega (arith, c.close_all-closed.ensures.longer, k, c.requires.fit.count, c.requires.space, c.args.self.now.waiting.ok.0);
+      sound = ap (sound_lines c.args.t) lines ∙ sane.sound;
+      formed = ap containers_formed waiting ∙ acted_formed s c.args.act c.args.t c.requires.fit c.args.self.now.formed;
+      counted = omega (arith, ap volume_of_all lines, sane.counted);
+    }
 
 pub returns : goal.returns
 returns c =
     let s = view c.args.self.now in
     let p : Line → Bool = closes c.args.act.chosen c.args.t in
-    let e = c.edit-lines.ensures.after in
+    let e = c.edit_lines.ensures.after in
     record {
       after = acted_is s c.args.act c.args.t _ _ _
-          (c.close-all-closed.ensures.count ∙ ap (λ ls. s.closed + closing_count p ls) e)
-          (c.stop-line.ensures.after ∙ ap (stopped_at c.args.act.stop) (c.close-all-closed.ensures.after ∙ ap (closed_lines p c.args.t) e))
-          (c.close-all-closed.ensures.appended
+          (c.close_all-closed.ensures.count ∙ ap (λ ls. s.closed + closing_count p ls) e)
+          (c.stop_line.ensures.after ∙ ap (stopped_at c.args.act.stop) (c.close_all-closed.ensures.after ∙ ap (closed_lines p c.args.t) e))
+          (c.close_all-closed.ensures.appended
           ∙ ap (λ ls. s.waiting ++ closings p c.args.act.cause s.marks.period c.args.t s.closed ls) e);
-      longer = omega (arith, c.close-all-closed.ensures.longer, ap (closing_count p) e, c.requires.fit.count, c.args.self.now.waiting.ok.0, c.close-all-closed.new.waiting.ok.0);
+      longer = omega (arith, c.close_all-closed.ensures.longer, ap (closing_count p) e, c.requires.fit.count, c.args.self.now.waiting.ok.0, c.close_all-closed.new.waiting.ok.0);
     }

@@ -8,8 +8,8 @@ use Rattle.session.proofs.session.Session.finish.Goals as goal
 
 pub returns : goal.returns
 returns g c =
-    let e = c.do-finish.ensures in
+    let e = c.do_finish.ensures in
     let s = view c.args.self.now.ledger in
-    let d = carried g.Key.LineKey.coding g.met.Key.LineKey.distinct g.met.Key.LineKey.kinds g.M.Method.column g.met.M.Method.tariff
+    let d = carried g.M.Key.LineKey.coding g.met.M.Key.LineKey.distinct g.met.M.Key.LineKey.kinds g.M.Method.column g.met.M.Method.tariff
     s _ (fed (Finish c.args.cause) c.args.slip.id c.args.t (g.T.Taker.room c.args.taker.now) []) told_finish _ refl _ g.T.Taker.book g.T.Taker.took c.args.taker.now _ e.comes in
     record { does = d.0; lends = d.1; back = e.back; refused = e.refused }

@@ -9,10 +9,10 @@ use Rattle.session.proofs.session.Session.shelve.Goals as goal
 
 pub returns : goal.returns
 returns g c =
-    let e = c.do-shelve.ensures in
+    let e = c.do_shelve.ensures in
     let s = view c.args.self.now.ledger in
     record {
-      does = does g.Key.LineKey.coding g.met.Key.LineKey.distinct g.met.Key.LineKey.kinds g.M.Method.column g.met.M.Method.tariff
+      does = does g.M.Key.LineKey.coding g.met.M.Key.LineKey.distinct g.met.M.Key.LineKey.kinds g.M.Method.column g.met.M.Method.tariff
           s _ (fed Shelve c.args.slip.id c.args.t 0 []) _ (ap told_shelving e.answer) e.after;
       adds = shelving_adds s c.args.t (decide s Shelve c.args.slip.id c.args.t);
       back = e.back;

@@ -7,8 +7,8 @@ use Rattle.session.proofs.thresholds.Thresholds.settings.Goals as goal
 pub loop-i-preserved : goal.loop-i-preserved
 loop-i-preserved g c =
     let f : ℕ → Trigger = λ n. trigger_made (g.M.Method.column n) c.args.self.now n in
-    filled_more f c.loop-i.settings c.loop-i.i 21 c.make-trigger.result c.loop-i.invariant.0 c.loop-i-test.true
-    (c.make-trigger.ensures ∙ ap (λ r. trigger_made r c.args.self.now c.loop-i.i) c.rule.ensures) c.loop-i.invariant.1
+    filled_more f c.loop-i.settings c.loop-i.i 21 c.make_trigger.result c.loop-i.invariant.0 c.loop-i-test.true
+    (c.make_trigger.ensures ∙ ap (λ r. trigger_made r c.args.self.now c.loop-i.i) c.rule.ensures) c.loop-i.invariant.1
 
 pub returns : goal.returns
 returns g c =
