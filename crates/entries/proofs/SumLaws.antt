@@ -1,6 +1,6 @@
 -- Sums over a book: one entry more, and their bound.
 use Rattle.std.proofs.Common.{◌≡◌, ℕ, ◌+◌, ◌*◌, ◌<◌, ◌≤◌, Bool, true, false, cond, List, [], ◌∷◌, length, get_or, drop, is_err, Ok, Err, Result, sym, ap, ◌∙◌, arith}
-use Rattle.std.specs.List.{AllByRecursion as All}
+use Rattle.std.specs.List.{AllByRecursion}
 use Rattle.std.proofs.ByRecursion.{All-append}
 use Rattle.std.proofs.lemmas.List.{at_drop_more, at_drop_all}
 use Rattle.std.proofs.lemmas.Bool.{and_parts, true≢false}
@@ -44,17 +44,17 @@ head_within h cs w = (grind (arith, nat_tests), grind (arith, nat_tests))
 container_within : (c : Entry) → container_formed c ≡ true → Within c
 container_within c w = (grind (arith, nat_tests), grind (arith, nat_tests))
 
-containers_within : (cs : List Entry) → containers_formed cs ≡ true → All Within cs
+containers_within : (cs : List Entry) → containers_formed cs ≡ true → AllByRecursion Within cs
 containers_within [] w = tt
 containers_within (c ∷ cs) w =
     let p = and_parts (container_formed c) (containers_formed cs) w in
     (container_within c p.0, containers_within cs p.1)
 
-pub requests_within : {q : ℕ} {es : List Entry} → Requests q es → All Within es
+pub requests_within : {q : ℕ} {es : List Entry} → Requests q es → AllByRecursion Within es
 requests_within none = tt
 requests_within (more {q} {es} h cs w r) =
     (head_within h cs w, All-append Within cs es (containers_within cs (formed_containers h cs w)) (requests_within r))
 
-pub judged_within : (es : List Entry) (r : Result ℕ ℕ) → is_err r ≡ false → Judged es r → All Within es
+pub judged_within : (es : List Entry) (r : Result ℕ ℕ) → is_err r ≡ false → Judged es r → AllByRecursion Within es
 judged_within es (Ok q) e j = requests_within j
 judged_within es (Err i) e j = absurd (true≢false e)

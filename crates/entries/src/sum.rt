@@ -1,6 +1,6 @@
 // The octets of a key and a tariff period in a book.
 ghost use Rattle.std.specs.Prelude.{◌≡◌, ◌≤◌, length};
-ghost use Rattle.std.specs.List.{AllByRecursion as All};
+ghost use Rattle.std.specs.List.{AllByRecursion};
 ghost use Rattle.entries.specs.Octets.{counts_for};
 ghost use Rattle.entries.specs.Sums.{most_summed, line_octets, unsummed_number, Within, summed};
 
@@ -52,7 +52,7 @@ fn counts_for(e: &Entry, line: LineId, period: u16) -> bool
 // The octets of a line and a tariff period.
 fn add_up(entries: &[Entry], line: LineId, period: u16) -> Octets
     requires short { length entries.now ≤ most_summed }
-    requires within { All Within entries.now }
+    requires within { AllByRecursion Within entries.now }
     ensures { result ≡ line_octets entries.now line period }
 {
     let mut uplink = 0;

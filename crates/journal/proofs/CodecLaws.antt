@@ -2,7 +2,7 @@
 use Rattle.std.proofs.Common.{◌≡◌, ℕ, zero, suc, ◌+◌, ◌*◌, ◌/◌, ◌%◌, ◌^◌, ◌<◌, ◌≤◌, List, [], ◌∷◌, ◌++◌, map, length, get_or, take, drop, sym, refl, ap, ◌∙◌, append_assoc, mod-eq_of_lt, mul_assoc, add_comm, div-one, arith, length-take}
 use native.Mathlib.Nat.{mod-one, one-le-pow, pow-succ', add-mul-div_right, add-mul-mod_self_right}
 use lib.Arith.{mod-mul, digits_lt, digits_div}
-use Rattle.std.specs.List.{range_with_len, AllByRecursion as All}
+use Rattle.std.specs.List.{range_with_len, AllByRecursion}
 use Rattle.std.proofs.lemmas.List.FromFn.{fill_by_all}
 use Rattle.std.proofs.ByRecursion.{All-take, All-drop}
 use Rattle.std.proofs.lemmas.List.{take_at, drop_at, take-append-drop, length-take-le, length-drop, nil_from_length, get_or-take, get_or-drop, drop-drop, take-take, drop-take}
@@ -28,7 +28,7 @@ value_be_mod (suc k) n =
 pub value_be : (k n : ℕ) → n < 256 ^ k → value (be k n) ≡ n
 value_be k n h = value_be_mod k n ∙ mod-eq_of_lt h
 
-pub value_lt : (bs : List ℕ) → All (λ b. b < 256) bs → value bs < 256 ^ length bs
+pub value_lt : (bs : List ℕ) → AllByRecursion (λ b. b < 256) bs → value bs < 256 ^ length bs
 unfolding value
 value_lt [] h = omega arith
 value_lt (b ∷ bs) h = rw pow-succ' (digits_lt h.0 (value_lt bs h.1))
@@ -43,7 +43,7 @@ be_add (suc k) m q =
     rw (e, be_add k m (q * 256), d) (ap (λ x. x ∷ be k m) (add-mul-mod_self_right (m / 256 ^ k) q 256))
 
 -- bytes are those of the number that they write
-pub be_value : (bs : List ℕ) → All (λ b. b < 256) bs → be (length bs) (value bs) ≡ bs
+pub be_value : (bs : List ℕ) → AllByRecursion (λ b. b < 256) bs → be (length bs) (value bs) ≡ bs
 unfolding be value
 be_value [] h = refl
 be_value (b ∷ bs) h =
@@ -105,7 +105,7 @@ unpack_take (w ∷ ws) bs =
 
 -- bytes are below 256
 abbrev pub Bytes : List ℕ → Type 0
-Bytes bs = All (λ b. b < 256) bs
+Bytes bs = AllByRecursion (λ b. b < 256) bs
 
 -- the numbers that bytes write, written again
 pub pack_unpack : (ws bs : List ℕ) → Bytes bs → length bs ≡ total ws → pack ws (unpack ws bs) ≡ bs

@@ -1,6 +1,6 @@
 -- The bytes of a journal after a request.
 use Rattle.std.proofs.Common.{◌≡◌, ℕ, suc, ◌+◌, ◌*◌, ◌≤◌, List, ◌∷◌, ◌++◌, length, take, drop, sym, ap, ◌∙◌, add_assoc, arith, take-add}
-use Rattle.std.specs.List.{AllByRecursion as All}
+use Rattle.std.specs.List.{AllByRecursion}
 use Rattle.std.proofs.lemmas.List.{drop_at, take-take, drop-take, take-append-le, drop-append-le, drop-drop, length-append, length-take, length-take-le, length-drop}
 use Rattle.entries.specs.declared.entry.Entry.{Entry}
 use Rattle.entries.specs.Written.{written}
@@ -56,7 +56,7 @@ module _ (bs : List ℕ) (n q : ℕ) (es : List Entry) (room : entry_offset n + 
       ∙ drop_before bs header_size (entry_size * n) (all_bytes es) (omega arith)
 
   -- its entries are those that were there, and then the new ones
-  pub entries_grown : All EntryFits es → entries_in (n + length es) (drop header_size (grown bs n q es)) ≡ entries_in n (drop header_size bs) ++ es
+  pub entries_grown : AllByRecursion EntryFits es → entries_in (n + length es) (drop header_size (grown bs n q es)) ≡ entries_in n (drop header_size bs) ++ es
   entries_grown fit =
       let l : entry_size * n ≤ length (drop header_size bs) = simp length-drop (omega arith) in
       let v = written (drop header_size bs) (entry_size * n) (all_bytes es) in

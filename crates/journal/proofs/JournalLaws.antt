@@ -1,6 +1,6 @@
 -- What a journal holds after its making and its takings is read back.
 use Rattle.std.proofs.Common.{◌≡◌, ℕ, suc, ◌+◌, ◌*◌, ◌≤◌, Bool, true, false, cond, ◌&&◌, leb, List, [], ◌∷◌, ◌++◌, length, take, Some, None, Ok, Option, Result, sym, refl, ap, ◌∙◌, subst, ⊎_elim, arith, length-append}
-use Rattle.std.specs.List.{AllByRecursion as All}
+use Rattle.std.specs.List.{AllByRecursion}
 use Rattle.std.proofs.lemmas.List.{append-nil}
 use Rattle.std.proofs.lemmas.Bool.{true≢false, cases_Bool}
 use Rattle.std.proofs.lemmas.Bool.Decides.{nat_tests}
@@ -36,7 +36,7 @@ sound_made lent long small =
     }
 
 sound_grown : (bs : List ℕ) (n q : ℕ) (es : List Entry) (h : Entry) (cs : List Entry) → Sound bs n q es → well_formed h cs ≡ true
-    → entry_offset n + entry_size * length (h ∷ cs) ≤ length bs → All EntryFits (h ∷ cs)
+    → entry_offset n + entry_size * length (h ∷ cs) ≤ length bs → AllByRecursion EntryFits (h ∷ cs)
     → Sound (grown bs n q (h ∷ cs)) (n + length (h ∷ cs)) (q + 1) (es ++ (h ∷ cs))
 sound_grown bs n q es h cs s w room fit =
     let l = length_grown bs n q (h ∷ cs) room in

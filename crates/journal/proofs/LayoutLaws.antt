@@ -1,7 +1,7 @@
 -- Entries and the header as bytes: written, read back, and written again.
 use Rattle.std.proofs.Common.{◌≡◌, ℕ, zero, suc, ◌+◌, ◌-◌, ◌*◌, ◌/◌, ◌<◌, ◌≤◌, List, [], ◌∷◌, ◌++◌, length, get_or, take, drop, Some, sym, refl, ap, ◌∙◌, append_assoc, not-suc-le-zero, add_comm, suc-add, mul-zero, zero-add, mul-suc, arith, take-add}
 use native.Mathlib.Nat.{mul-div_right}
-use Rattle.std.specs.List.{AllByRecursion as All, slice_get}
+use Rattle.std.specs.List.{AllByRecursion, slice_get}
 use Rattle.std.proofs.ByRecursion.{All-take, All-drop}
 use Rattle.std.proofs.lemmas.List.{drop_at, take-take, drop-take, drop-drop, length-append, length-take-le, length-drop, append-nil, take_more}
 use Rattle.entries.specs.declared.entry.Entry.{Entry}
@@ -135,7 +135,7 @@ entries_split (suc n) m bs =
     rw (suc-add n m, i, ← drop-drop (entry_size * n) entry_size bs) (ap (λ x. entry_of bs ∷ x) (entries_split n m (drop entry_size bs)))
 
 -- entries whose fields fit are read back from their bytes, whatever follows
-pub entries_of_all : (es : List Entry) (more : List ℕ) → All EntryFits es → entries_in (length es) (all_bytes es ++ more) ≡ es
+pub entries_of_all : (es : List Entry) (more : List ℕ) → AllByRecursion EntryFits es → entries_in (length es) (all_bytes es ++ more) ≡ es
 entries_of_all [] more h = refl
 entries_of_all (e ∷ es) more h =
     let a = append_assoc (entry_bytes e) (all_bytes es) more in

@@ -1,6 +1,6 @@
 -- Bytes that are the header and the encoding of well-formed requests are read back.
 use Rattle.std.proofs.Common.{◌≡◌, ℕ, ◌+◌, ◌*◌, ◌≤◌, leb, List, [], ◌++◌, length, get_or, take, drop, Ok, sym, refl, ap, ◌∙◌, zero-add, arith}
-use Rattle.std.specs.List.{AllByRecursion as All}
+use Rattle.std.specs.List.{AllByRecursion}
 use Rattle.std.proofs.lemmas.List.{append-nil, take_at, drop_at, take-take, drop-take, length-append, length-take}
 use Rattle.std.proofs.lemmas.Bool.{and_parts, leb-true}
 use Rattle.std.proofs.lemmas.Bool.Decides.{nat_tests}
@@ -54,7 +54,7 @@ journal_within : (bs : List ℕ) (es : List Entry) (q : ℕ) → take (entry_off
 journal_within bs es q e =
     omega (arith, simp (length-take, length-append) at (ap length e), length_header (length es) q, length_all es)
 
-journal_book : (bs : List ℕ) (es : List Entry) (q : ℕ) → All EntryFits es → take (entry_offset (length es)) bs ≡ journal_bytes q es → book_in (length es) bs ≡ es
+journal_book : (bs : List ℕ) (es : List Entry) (q : ℕ) → AllByRecursion EntryFits es → take (entry_offset (length es)) bs ≡ journal_bytes q es → book_in (length es) bs ≡ es
 journal_book bs es q fit e =
     let n = length es in
     sym (entries_take n (drop header_size bs))
@@ -63,7 +63,7 @@ journal_book bs es q fit e =
     ∙ (drop_at (header_bytes n q) (all_bytes es) header_size (length_header n q) ∙ sym (append-nil (all_bytes es)))))
     ∙ entries_of_all es [] fit)
 
-journal_sound : (bs : List ℕ) (es : List Entry) (g : JournalOf bs es) → All EntryFits es → Sound bs (length es) g.requests es
+journal_sound : (bs : List ℕ) (es : List Entry) (g : JournalOf bs es) → AllByRecursion EntryFits es → Sound bs (length es) g.requests es
 journal_sound bs es g fit = record {
   book = journal_book bs es g.requests fit g.bytes;
   size = refl;
@@ -73,5 +73,5 @@ journal_sound bs es g fit = record {
   small = leb-true (length bs) most_bytes (and_parts (leb header_size (length bs)) (leb (length bs) most_bytes) g.size).1;
 }
 
-pub journal_read : (bs : List ℕ) (es : List Entry) → All EntryFits es → JournalOf bs es → read bs ≡ Ok es
+pub journal_read : (bs : List ℕ) (es : List Entry) → AllByRecursion EntryFits es → JournalOf bs es → read bs ≡ Ok es
 journal_read bs es fit g = read_sound bs (length es) g.requests es (journal_sound bs es g fit)

@@ -1,6 +1,6 @@
 -- What a journal holds, what it is after a request, and how it is made.
 use Rattle.std.specs.Prelude.{◌≡◌, ℕ, suc, ◌+◌, ◌≤◌, true, cond, ◌&&◌, ◌||◌, List, [], ◌∷◌, ◌++◌, length, take, Some, None, Ok, Option, Result, nat_le, nat_lt}
-use Rattle.std.specs.List.{AllByRecursion as All}
+use Rattle.std.specs.List.{AllByRecursion}
 use Rattle.entries.specs.declared.entry.Entry.{Entry}
 use Rattle.entries.specs.declared.taker.Override.{Override}
 use Rattle.entries.specs.declared.making.Unmade.{Unmade}
@@ -41,7 +41,7 @@ pub record Grown (before : Journal) (head : Entry) (containers : List Entry) (af
   pub overrides : after.overrides.now ≡ before.overrides.now
   pub formed : well_formed head containers ≡ true
   pub room : length containers + 1 ≤ places_left before
-  pub fit : All EntryFits (head ∷ containers)
+  pub fit : AllByRecursion EntryFits (head ∷ containers)
 
 -- why a making is refused; the profile is looked at first
 abbrev pub unmade_journal : (overrides bytes : ℕ) → Option Unmade

@@ -1,6 +1,6 @@
 -- What a reader answers of any bytes, and what its answer says.
 use Rattle.std.specs.Prelude.{◌≡◌, ℕ, Bool, true, false, cond, ◌&&◌, List, length, take, Ok, Err, Result, ◌==◌, nat_le}
-use Rattle.std.specs.List.{AllByRecursion as All}
+use Rattle.std.specs.List.{AllByRecursion}
 use Rattle.entries.specs.declared.entry.Entry.{Entry}
 use Rattle.entries.specs.Sequences.{requests_in, Requests, StopsAt}
 use Rattle.journal.specs.declared.fault.Fault.{Fault}
@@ -80,4 +80,4 @@ Meant bs (Err f) = Wrong bs f
 
 -- bytes that are a journal of entries whose fields fit their widths are accepted, and show these entries
 abbrev pub Complete : List ℕ → Result (List Entry) Fault → Type 0
-Complete bs r = (es : List Entry) → All EntryFits es → JournalOf bs es → r ≡ Ok es
+Complete bs r = (es : List Entry) → AllByRecursion EntryFits es → JournalOf bs es → r ≡ Ok es

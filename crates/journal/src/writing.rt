@@ -1,6 +1,6 @@
 // What is written into the bytes of a journal.
 ghost use Rattle.std.specs.Prelude.{◌≡◌, ◌+◌, ◌*◌, ◌≤◌, ◌∷◌, length};
-ghost use Rattle.std.specs.List.{AllByRecursion as All};
+ghost use Rattle.std.specs.List.{AllByRecursion};
 ghost use Rattle.entries.specs.Written.{written};
 ghost use Rattle.journal.specs.Layout.{entry_size, most_bytes, entry_offset, entry_bytes, EntryFits, all_bytes, grown};
 
@@ -20,7 +20,7 @@ fn write_at(bytes: &mut [u8], at: usize, e: &Entry)
 fn write_all_at(bytes: &mut [u8], at: usize, es: &[Entry])
     requires { at + entry_size * length es.now ≤ length bytes.old }
     ensures bytes { bytes.new ≡ written bytes.old at (all_bytes es.now) }
-    ensures fits { All EntryFits es.now }
+    ensures fits { AllByRecursion EntryFits es.now }
 {
     let mut to = at;
     for e in es {
@@ -41,7 +41,7 @@ pub(crate) fn write_request(
     requires containers_in_bounds { entry_offset entries + entry_size * (length containers.now + 1) ≤ length bytes.old }
     requires bytes_len_bound { length bytes.old ≤ most_bytes }
     ensures bytes { bytes.new ≡ grown bytes.old entries requests (head.now ∷ containers.now) }
-    ensures fits { All EntryFits (head.now ∷ containers.now) }
+    ensures fits { AllByRecursion EntryFits (head.now ∷ containers.now) }
 {
     let free = entry_offset(entries as usize);
     write_at(bytes, free, head);

@@ -1,6 +1,6 @@
 -- What every accepted call does to the lines, whatever it decides by, and that the decisions keep to it.
 use Rattle.std.proofs.Common.{◌≡◌, ℕ, zero, suc, ◌+◌, ◌-◌, ◌<◌, ◌≤◌, Bool, true, false, cond, not, ◌&&◌, ◌||◌, eqb, ltb, leb, List, [], ◌∷◌, ◌++◌, length, get_or, set, Some, None, Ok, Err, Option, Result, sym, refl, ap, ◌∙◌, subst, arith}
-use Rattle.std.specs.List.{AllByRecursion as All}
+use Rattle.std.specs.List.{AllByRecursion}
 use Rattle.std.proofs.ByRecursion.{All-weaker, All-push}
 use Rattle.std.proofs.lemmas.Bool.{eqb-true, and_parts, and_from, true≢false, cond_both, not-false, ltb-false}
 use Rattle.entries.specs.declared.key.LineId.{LineId}
@@ -30,14 +30,14 @@ use Rattle.session.proofs.Updates.{place_none, update_at, any_at, none_active, c
 pub no_way : {A : Type 0} → false ≡ true → A
 no_way h = absurd (true≢false (sym h))
 
-pub all_two : {X : Type 0} (P Q R : X → Type 0) → ((x : X) → P x → Q x → R x) → (xs : List X) → All P xs → All Q xs → All R xs
+pub all_two : {X : Type 0} (P Q R : X → Type 0) → ((x : X) → P x → Q x → R x) → (xs : List X) → AllByRecursion P xs → AllByRecursion Q xs → AllByRecursion R xs
 all_two P Q R f [] h k = tt
 all_two P Q R f (x ∷ xs) h k = (f x h.0 k.0, all_two P Q R f xs h.1 k.1)
 
 -- sessions that can be met
 pub record Sound (s : State) : Type 0 where
   pub apart : Apart s.lines
-  pub idle : All Idle s.lines
+  pub idle : AllByRecursion Idle s.lines
   pub tariff : (trigger s tariff_time).known ≡ true → (trigger s tariff_time).enabled ≡ true
   pub settled : s.marks.phase ≡ Ended → (s.waiting ≡ []) × ((d : Direction) (k : LineId) → open_on d k s.lines ≡ 0)
 
@@ -83,7 +83,7 @@ is_finish Shelve = false
 
 -- each active line is open since the time that b has for it
 abbrev pub Since : (LineId → Option ℕ) → List Line → Type 0
-Since b ls = All (λ l. l.active ≡ true → b l.id ≡ Some l.since) ls
+Since b ls = AllByRecursion (λ l. l.active ≡ true → b l.id ≡ Some l.since) ls
 
 -- what a call starts, and what it reports, by the lines that its keys name
 
@@ -121,7 +121,7 @@ reported_by d k Shelve = 0
 -- what a call's own start or count leaves of the lines
 pub record Moved (s : State) (c : Call) (t : ℕ) (ls : List Line) : Type 0 where
   pub apart : Apart ls
-  pub idle : All Idle ls
+  pub idle : AllByRecursion Idle ls
   pub since : (b b' : LineId → Option ℕ) → ((k : LineId) → starts c k ≡ true → b' k ≡ Some t)
       → ((k : LineId) → starts c k ≡ false → b' k ≡ b k) → Since b s.lines → Since b' ls
   pub counts : (d : Direction) (k : LineId) → open_on d k ls ≡ open_on d k s.lines + reported_by d k c

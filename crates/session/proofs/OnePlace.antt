@@ -1,6 +1,6 @@
 -- Every octet has one place; and what is charged does not depend on thresholds, profiles or takers.
 use Rattle.std.proofs.Common.{◌≡◌, ℕ, ◌+◌, Bool, true, false, cond, ◌&&◌, eqb, ltb, ◌⊎◌, List, [], ◌∷◌, ◌++◌, Some, None, Ok, Err, Option, Result, sym, refl, ap, ◌∙◌, subst, ap₂, inl, inr, arith}
-use Rattle.std.specs.List.{AllZip, AllByRecursion as All}
+use Rattle.std.specs.List.{AllZip, AllByRecursion}
 use Rattle.std.proofs.lemmas.Bool.{cond_both}
 use Rattle.entries.specs.declared.entry.Entry.{Entry}
 use Rattle.entries.specs.declared.key.LineId.{LineId}
@@ -40,8 +40,8 @@ nil false = refl
 abbrev Halfway : Deed → Line → Type 0
 Halfway a l = ((d : Direction) → open_of d l ≡ 0) ⊎ (Idle l × (a.closes l ≡ false))
 
-idle_after : (a : Deed) (t : ℕ) → ((l : Line) → a.stops l ≡ true → l.active ≡ true → a.closes l ≡ false → Silent l) → All Idle a.lines
-    → All Idle (update a.stops stopped (update a.closes (restarted t) a.lines))
+idle_after : (a : Deed) (t : ℕ) → ((l : Line) → a.stops l ≡ true → l.active ≡ true → a.closes l ≡ false → Silent l) → AllByRecursion Idle a.lines
+    → AllByRecursion Idle (update a.stops stopped (update a.closes (restarted t) a.lines))
 idle_after a t stops h =
     all_update Idle (Halfway a) a.stops stopped now_off still_on (update a.closes (restarted t) a.lines)
     (all_update (Halfway a) Idle a.closes (restarted t) (λ l q e. inl (none t l)) (λ l q e. inr (q, e)) a.lines h)
@@ -66,7 +66,7 @@ idle_after a t stops h =
     still_on l (inl z) e off d = z d
     still_on l (inr q) e off d = q.0 off d
 
-all_lines : (P : Line → Type 0) → ((l : Line) → P l) → (ls : List Line) → All P ls
+all_lines : (P : Line → Type 0) → ((l : Line) → P l) → (ls : List Line) → AllByRecursion P ls
 all_lines P f [] = tt
 all_lines P f (l ∷ ls) = (f l, all_lines P f ls)
 
@@ -126,7 +126,7 @@ did_sound s f o sound x =
       apart = subst Apart (sym (lines_after x))
           (apart_update a.stops stopped (λ l. refl) (update a.closes (restarted f.time) a.lines)
           (apart_update a.closes (restarted f.time) (λ l. refl) a.lines x.well.fair.moved.apart));
-      idle = subst (All Idle) (sym (lines_after x)) (idle_after a f.time x.well.fair.stops x.well.fair.moved.idle);
+      idle = subst (AllByRecursion Idle) (sym (lines_after x)) (idle_after a f.time x.well.fair.stops x.well.fair.moved.idle);
       tariff = x.tariff sound.tariff;
       settled = λ h.
           let final : is_finish f.call ≡ true =

@@ -1,6 +1,6 @@
 -- Containers follow one another: their numbers, and where each begins.
 use Rattle.std.proofs.Common.{◌≡◌, ℕ, suc, ◌+◌, ◌-◌, ◌≤◌, max, Bool, true, false, cond, ◌&&◌, ◌||◌, ◌⊎◌, List, [], ◌∷◌, ◌++◌, length, drop, Some, None, Option, sym, refl, ap, ◌∙◌, subst, ap₂, inl, inr, arith}
-use Rattle.std.specs.List.{AllByRecursion as All}
+use Rattle.std.specs.List.{AllByRecursion}
 use Rattle.std.proofs.lemmas.List.{append-nil, append_assoc, drop_at, drop_all, length-append}
 use Rattle.std.proofs.lemmas.List.Elements.{filter-append}
 use Rattle.std.proofs.lemmas.Bool.{and_parts, and_from}
@@ -116,7 +116,7 @@ module _ (closes : Line → Bool) (c P t : ℕ) where
       go false i j = j
 
   -- a line closes exactly where one of its identity does
-  closes_own : (ls : List Line) → Apart ls → All (λ l. any (closes_on l.id) ls ≡ closes l) ls
+  closes_own : (ls : List Line) → Apart ls → AllByRecursion (λ l. any (closes_on l.id) ls ≡ closes l) ls
   unfolding closes_on
   closes_own [] a = tt
   closes_own (l ∷ ls) a = (
@@ -137,7 +137,7 @@ module _ (closes : Line → Bool) (c P t : ℕ) where
       other true false z w e f = f
       other false y z w e f = f
 
-      nowhere : (k : LineId) (ms : List Line) → All (λ m. is_line k m ≡ false) ms → any (closes_on k) ms ≡ false
+      nowhere : (k : LineId) (ms : List Line) → AllByRecursion (λ m. is_line k m ≡ false) ms → any (closes_on k) ms ≡ false
       nowhere k [] h = refl
       nowhere k (m ∷ ms) h = other (closes m) (is_line k m) (any (closes_on k) ms) false h.0 (nowhere k ms h.1)
 

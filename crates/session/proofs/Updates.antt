@@ -1,6 +1,6 @@
 -- Lists of lines: what an update, a closing and a start leave of identities, open counts and books.
 use Rattle.std.proofs.Common.{◌≡◌, ℕ, zero, suc, ◌+◌, ◌-◌, ◌<◌, Bool, true, false, cond, ◌&&◌, ◌||◌, eqb, List, [], ◌∷◌, ◌++◌, length, get_or, set, Some, None, sym, refl, ap, ◌∙◌, subst, ap₂, arith}
-use Rattle.std.specs.List.{AllByRecursion as All}
+use Rattle.std.specs.List.{AllByRecursion}
 use Rattle.std.proofs.ByRecursion.{All-weaker, All-get_or}
 use Rattle.std.proofs.lemmas.Bool.{eqb-true, eq-eqb, and_parts, and_from, true≢false, or_parts}
 use Rattle.entries.specs.declared.entry.Entry.{Entry}
@@ -77,13 +77,13 @@ module _ (p : Line → Bool) (f : Line → Line) (same : (l : Line) → (f l).id
   open_at d k true l h = ap₂ (λ (i : LineId) (n : ℕ). cond (same_line i k) n 0) (same l) (h refl)
   open_at d k false l h = refl
 
-  pub open_update : (d : Direction) (k : LineId) (ls : List Line) → All (λ l. p l ≡ true → open_of d (f l) ≡ open_of d l) ls
+  pub open_update : (d : Direction) (k : LineId) (ls : List Line) → AllByRecursion (λ l. p l ≡ true → open_of d (f l) ≡ open_of d l) ls
       → open_on d k (update p f ls) ≡ open_on d k ls
   open_update d k [] h = refl
   open_update d k (l ∷ ls) h = ap₂ ◌+◌ (open_at d k (p l) l h.0) (open_update d k ls h.1)
 
 pub all_update : (P Q : Line → Type 0) (p : Line → Bool) (f : Line → Line) → ((l : Line) → Q l → p l ≡ true → P (f l))
-    → ((l : Line) → Q l → p l ≡ false → P l) → (ls : List Line) → All Q ls → All P (update p f ls)
+    → ((l : Line) → Q l → p l ≡ false → P l) → (ls : List Line) → AllByRecursion Q ls → AllByRecursion P (update p f ls)
 all_update P Q p f yes' no' [] h = tt
 all_update P Q p f yes' no' (l ∷ ls) h = (go (p l) refl, all_update P Q p f yes' no' ls h.1)
   where
@@ -92,7 +92,7 @@ all_update P Q p f yes' no' (l ∷ ls) h = (go (p l) refl, all_update P Q p f ye
     go false e = no' l h.0 e
 
 -- from an `any` that fails
-pub none_are : (p : Line → Bool) (ls : List Line) → any p ls ≡ false → All (λ l. p l ≡ false) ls
+pub none_are : (p : Line → Bool) (ls : List Line) → any p ls ≡ false → AllByRecursion (λ l. p l ≡ false) ls
 none_are p [] h = tt
 none_are p (l ∷ ls) h = let q = or_parts (p l) (any p ls) h in (q.0, none_are p ls q.1)
 
@@ -123,7 +123,7 @@ open_push d k [] l h = go (is_line k l)
 open_push d k (m ∷ ls) l h = ap (λ (n : ℕ). cond (is_line k m) (open_of d m) 0 + n) (open_push d k ls l h)
 
 -- a report goes to one line
-pub update_none : (p : Line → Bool) (f : Line → Line) (ls : List Line) → All (λ l. p l ≡ false) ls → update p f ls ≡ ls
+pub update_none : (p : Line → Bool) (f : Line → Line) (ls : List Line) → AllByRecursion (λ l. p l ≡ false) ls → update p f ls ≡ ls
 update_none p f [] h = refl
 update_none p f (l ∷ ls) h = ap₂ ◌∷◌ (ap (λ (b : Bool). cond b (f l) l) h.0) (update_none p f ls h.1)
 
@@ -211,7 +211,7 @@ none_active k (l ∷ ls) zero d a h e off =
     let none : any (is_line k) ls ≡ false = subst (λ (x : LineId). any (is_line x) ls ≡ false) (same_true l.id k e) a.0 in
     ap₂ ◌||◌ (ap (λ (b : Bool). b && is_line k l) off) (nowhere ls (none_are (is_line k) ls none))
   where
-    nowhere : (ms : List Line) → All (λ m. is_line k m ≡ false) ms → any (active_line k) ms ≡ false
+    nowhere : (ms : List Line) → AllByRecursion (λ m. is_line k m ≡ false) ms → any (active_line k) ms ≡ false
     nowhere [] h = refl
     nowhere (m ∷ ms) h = ap₂ ◌||◌ (not_active k m h.0) (nowhere ms h.1)
 none_active k (l ∷ ls) (suc i) d a h e off = ap₂ ◌||◌ (not_active k l (go (is_line k l) refl)) (none_active k ls i d a.1 (omega arith) e off)
@@ -276,7 +276,7 @@ closings_move d k p closes c P t n (l ∷ ls) =
         (open_on d k (update closes (restarted t) ls)) (open_on d k ls) i
 
 -- nothing is open where all active lines closed that had anything open
-pub all_closed : (d : Direction) (k : LineId) (closes : Line → Bool) (t : ℕ) (ls : List Line) → All Idle ls
+pub all_closed : (d : Direction) (k : LineId) (closes : Line → Bool) (t : ℕ) (ls : List Line) → AllByRecursion Idle ls
     → ((l : Line) → l.active ≡ true → closes l ≡ false → (d : Direction) → open_of d l ≡ 0) → open_on d k (update closes (restarted t) ls) ≡ 0
 all_closed d k closes t [] h w = refl
 all_closed d k closes t (l ∷ ls) h w = go (all_closed d k closes t ls h.1 w) (closes l) refl l.active refl

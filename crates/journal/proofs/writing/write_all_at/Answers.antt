@@ -1,5 +1,5 @@
 use Rattle.std.proofs.Common.{sym, ap, ◌∙◌, subst, arith}
-use Rattle.std.specs.List.{AllByRecursion as All}
+use Rattle.std.specs.List.{AllByRecursion}
 use Rattle.std.proofs.lemmas.List.{take_all}
 use Rattle.std.proofs.ByRecursion.{All-more}
 use Rattle.entries.specs.Written.{written}
@@ -24,5 +24,5 @@ returns c =
     let e = take_all c.loop-e.e-index c.args.es.now c.loop-e-test.false in
     record {
       bytes = c.loop-e.invariant.1 ∙ ap (λ x. written c.args.bytes.now c.args.at (all_bytes x)) e;
-      fits = subst (All EntryFits) e c.loop-e.invariant.2;
+      fits = subst (AllByRecursion EntryFits) e c.loop-e.invariant.2;
     }
