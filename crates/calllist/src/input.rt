@@ -1,5 +1,6 @@
 // Standard input, line by line.
 use std::alloc::Global;
+use std::io;
 use std::io::{BufRead, BufReader, Stdin};
 
 #[derive(Drop)]
@@ -15,12 +16,13 @@ pub struct Input {
 pub struct Unreadable;
 
 impl Input {
-    pub(crate) fn new(heap: Global, stdin: Stdin) -> Input {
-        Input {
-            reader: BufReader::new(stdin),
+    // Fails where there is no memory for the reader's buffer.
+    pub(crate) fn new(heap: Global, stdin: Stdin) -> io::Result<Input> {
+        Ok(Input {
+            reader: BufReader::new(heap, stdin)?,
             line: String::new(heap),
             number: 0,
-        }
+        })
     }
 
     // Reads the next line; false at the end of the input.

@@ -53,7 +53,7 @@ fn open<M: Method, F: ChargingFunction>(
     t: u32,
     held: Option<Slip>,
 ) -> (Answer, Option<Slip>)
-    ensures { result.0 ≡ unless_held held (step M.Method.column (view session.old.ledger) (seen Key-as-LineKey.coding (fed Opening 0 t (F.Taker.room function.old) (F.ChargingFunction.profile function.old)))).answer }
+    ensures { result.0 ≡ unless_held held (step M.Method.column (view session.old.ledger) (seen M.Key.LineKey.coding (fed Opening 0 t (F.Taker.room function.old) (F.ChargingFunction.profile function.old)))).answer }
 {
     match held {
         Some(slip) => (Answer::Refused(Refusal::WrongPhase.number()), Some(slip)),
@@ -71,7 +71,7 @@ fn finish<M: Method, F: Taker>(
     t: u32,
     held: Option<Slip>,
 ) -> (Answer, Option<Slip>)
-    ensures { result.0 ≡ by_slip held (λ s. (step M.Method.column (view session.old.ledger) (seen Key-as-LineKey.coding (fed (Finishing cause) s.id t (F.Taker.room taker.old) []))).answer) }
+    ensures { result.0 ≡ by_slip held (λ s. (step M.Method.column (view session.old.ledger) (seen M.Key.LineKey.coding (fed (Finishing cause) s.id t (F.Taker.room taker.old) []))).answer) }
 {
     match held {
         None => (Answer::NoSlip, None),
@@ -83,7 +83,7 @@ fn finish<M: Method, F: Taker>(
 }
 
 fn shelve<M: Method>(session: &mut Session<M>, t: u32, held: Option<Slip>) -> (Answer, Option<Slip>)
-    ensures { result.0 ≡ by_slip held (λ s. (step M.Method.column (view session.old.ledger) (seen Key-as-LineKey.coding (fed Shelving s.id t 0 []))).answer) }
+    ensures { result.0 ≡ by_slip held (λ s. (step M.Method.column (view session.old.ledger) (seen M.Key.LineKey.coding (fed Shelving s.id t 0 []))).answer) }
 {
     match held {
         None => (Answer::NoSlip, None),

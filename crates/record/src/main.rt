@@ -2,6 +2,9 @@
 // octets of the line in each tariff period.
 #![tactic(auto)]
 
+ghost use Rattle.std.specs.Prelude.{IfErr};
+ghost use Rattle.sample.specs.Stops.{IsSettled};
+
 use entries::entry::*;
 use entries::key::*;
 use entries::link::*;
@@ -10,6 +13,7 @@ use entries::taker::*;
 use journal::journal::*;
 use journal::reader::*;
 use sample::*;
+use std::process::ExitCode;
 
 // The bytes of the journal, more than the session needs.
 const BYTES: usize = 512;
@@ -53,7 +57,9 @@ fn read_back(rt: &impl Print, reader: &Reader) -> Result<(), Failure> {
     show_octets(rt, entries, 1)
 }
 
-fn main(rt: HostRuntime) -> Result<(), Stop> {
+fn run(rt: &HostRuntime) -> Result<(), Stop>
+    ensures { IfErr result IsSettled }
+{
     let mut session = make_session(rt.alloc())?;
     let mut bytes = [0u8; BYTES];
     let made = Journal::new(&mut bytes, &[]);
@@ -63,8 +69,16 @@ fn main(rt: HostRuntime) -> Result<(), Stop> {
     let mut link = Link::new(made.value);
     charge(&mut session, &mut link)?;
     match link.below().reader() {
-        Ok(reader) => read_back(&rt, &reader)?,
+        Ok(reader) => read_back(rt, &reader)?,
         Err(fault) => return Err(Stop::Failed(Failure::Refused(fault.number()))),
     }
     Ok(())
+}
+
+fn main(rt: HostRuntime) -> ExitCode {
+    match run(&rt) {
+        Ok(()) => ExitCode::SUCCESS,
+        Err(Stop::Failed(_)) => ExitCode::FAILURE,
+        Err(Stop::Owed(_)) => unreachable(),
+    }
 }

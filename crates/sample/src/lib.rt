@@ -2,6 +2,12 @@
 // reports around a tariff change, and the end.
 #![tactic(auto)]
 
+ghost use Rattle.std.specs.Prelude.{◌≡◌, ℕ, IfErr};
+ghost use Rattle.session.specs.Slips.{Spendable};
+ghost use Rattle.session.specs.View.{view};
+ghost use Rattle.sample.specs.declared.Stop.TheVariants.{Failed};
+ghost use Rattle.sample.specs.Stops.{IsSettled};
+
 use entries::entry::*;
 use entries::key::*;
 use entries::method::*;
@@ -30,6 +36,8 @@ pub enum Stop {
 }
 
 impl From<Failure> for Stop {
+    ghost from_gives = { λ why stop. stop ≡ Failed why };
+
     fn from(why: Failure) -> Stop {
         Stop::Failed(why)
     }
@@ -50,8 +58,10 @@ fn expect(answer: Reported, closed: usize) -> Result<(), Failure> {
     }
 }
 
-// The calls between opening and finish.
-fn count<F: Taker>(session: &mut Session<Converged>, function: &mut F) -> Result<(), Failure> {
+// The calls between opening and finish. They leave the slip as it is.
+fn count<F: Taker>(session: &mut Session<Converged>, function: &mut F) -> Result<(), Failure>
+    ensures { (slip : ℕ) → Spendable (view session.old.ledger) slip 140 → Spendable (view session.new.ledger) slip 140 }
+{
     let key = ServiceKey {
         rating_group: 10,
         service_id: None,
@@ -63,7 +73,9 @@ fn count<F: Taker>(session: &mut Session<Converged>, function: &mut F) -> Result
 }
 
 // Gives the slip back where the session cannot be finished, and hands on why.
-pub fn give_up(session: &mut Session<Converged>, slip: Slip, why: Failure) -> Stop {
+pub fn give_up(session: &mut Session<Converged>, slip: Slip, why: Failure) -> Stop
+    ensures { Spendable (view session.old.ledger) slip.id 140 → IsSettled result }
+{
     match session.shelve(140, slip) {
         Ok(_) => Stop::Failed(why),
         Err((_, slip)) => Stop::Owed(slip),
@@ -74,7 +86,9 @@ pub fn give_up(session: &mut Session<Converged>, slip: Slip, why: Failure) -> St
 pub fn charge<F: ChargingFunction>(
     session: &mut Session<Converged>,
     function: &mut F,
-) -> Result<(), Stop> {
+) -> Result<(), Stop>
+    ensures { IfErr result IsSettled }
+{
     let (opened, slip) = match session.open(100, function) {
         Ok(answer) => answer,
         Err(why) => return Err(Stop::Failed(why.into())),

@@ -15,3 +15,4 @@ pub mod OnePlace
 pub mod Formed
 pub mod Order
 pub mod Lawful
+pub mod Staying

@@ -1,5 +1,5 @@
 // A session of a charging method, and the calls on it.
-ghost use Rattle.std.specs.Prelude.{◌≡◌, true, false, [], is_ok, IfErr};
+ghost use Rattle.std.specs.Prelude.{◌≡◌, true, false, [], is_ok, IfOk, IfErr};
 ghost use Rattle.session.specs.declared.event.Event.TheVariants.{Open as Opening, Start as Starting, Usage as Reporting, End as Ending, Change as Changing, Tick as Ticking};
 ghost use Rattle.session.specs.declared.event.Event.TheVariants.{Intervene as Intervening, Push as Pushing, Finish as Finishing, Shelve as Shelving};
 ghost use Rattle.session.specs.Answers.{told_opening, told_report, told_finish, told_shelving};
@@ -69,12 +69,13 @@ impl<M: Method> Session<M> {
         function: &mut F,
     ) -> Result<(Opened, Slip), Refusal>
         ensures handed { slip_handed self.old.ledger.id result }
+        ensures unspent { IfOk result (λ a. a.1.spent ≡ false) }
         ensures comes { Comes (opening M.Method.column (F.ChargingFunction.profile function.old) (view self.old.ledger) t (F.Taker.room function.old) (decide (view self.old.ledger) Opening 0 t)) (slip_aside result) (view self.new.ledger) F.Taker.book F.Taker.took function.old function.new }
         ensures refused { is_ok result ≡ false → (self.new ≡ self.old) × (function.new ≡ function.old) }
     {
         let opened = self.ledger.open(&self.method, t, function)?;
         let id = self.ledger.id;
-        Ok((opened, Slip { id }))
+        Ok((opened, Slip::new(id)))
     }
 
     fn do_call<T: Taker>(
@@ -152,6 +153,7 @@ impl<M: Method> Session<M> {
         ensures does { Does M.Key.LineKey.coding M.Method.column (view self.old.ledger) (fed Opening 0 t (F.Taker.room function.old) (F.ChargingFunction.profile function.old)) (told_opening (slip_aside result)) (view self.new.ledger) }
         ensures lends { Lends (step M.Method.column (view self.old.ledger) (seen M.Key.LineKey.coding (fed Opening 0 t (F.Taker.room function.old) (F.ChargingFunction.profile function.old)))).added F.Taker.book F.Taker.took function.old function.new }
         ensures handed { slip_handed self.old.ledger.id result }
+        ensures unspent { IfOk result (λ a. a.1.spent ≡ false) }
         ensures refused { is_ok result ≡ false → (self.new ≡ self.old) × (function.new ≡ function.old) }
     {
         self.do_open(t, function)

@@ -1,22 +1,33 @@
 // The slip that an opening hands out.
+ghost use Rattle.std.specs.Prelude.{◌≡◌, true, false};
 
-// A slip is owed back to a finish or a shelving. It can be neither copied nor let go.
+// A slip is owed back to a finish or a shelving. It cannot be copied, and let go only once it is taken back.
 pub struct Slip {
     pub(crate) id: u32,
+    // whether it was taken back, which nobody but the session does
+    pub(crate) spent: bool,
 }
 
-// Nobody may let a slip go: what this asks cannot be shown.
+// Nobody else may let a slip go: what this asks cannot be shown of a slip that is at hand.
 impl Drop for Slip {
     fn drop(self)
-        requires { ⊥ }
+        requires { self.spent ≡ true }
     {
-        self.spend();
+        let Slip { id: _, spent: _ } = self;
     }
 }
 
 impl Slip {
+    // The slip of a session with this charging id.
+    pub(crate) fn new(id: u32) -> Slip
+        ensures { result ≡ record { id = id; spent = false } }
+    {
+        Slip { id, spent: false }
+    }
+
     // Takes the slip back.
     pub(crate) fn spend(self) {
-        let Slip { id: _ } = self;
+        let mut slip = self;
+        slip.spent = true;
     }
 }

@@ -2,6 +2,11 @@
 // the arguments. Prints how many reports were accepted.
 #![tactic(auto)]
 
+ghost use Rattle.std.specs.Prelude.{ℕ, IfErr};
+ghost use Rattle.session.specs.Slips.{Spendable};
+ghost use Rattle.session.specs.View.{view};
+ghost use Rattle.sample.specs.Stops.{IsSettled};
+
 use entries::book::*;
 use entries::entry::*;
 use entries::key::*;
@@ -11,6 +16,7 @@ use entries::trigger::*;
 use sample::*;
 use session::session::*;
 use std::env;
+use std::process::ExitCode;
 
 // The book takes the Initial and the Termination with a container for each line.
 const PLACES: usize = 64;
@@ -50,8 +56,10 @@ fn line_key(n: u32) -> ServiceKey {
     }
 }
 
-// Starts the lines, and counts the reports on them in turn; how many were accepted.
-fn count_reports<T: Taker>(session: &mut Session<Converged>, load: &Load, taker: &mut T) -> u64 {
+// Starts the lines, and counts the reports on them in turn; how many were accepted. They leave the slip as it is.
+fn count_reports<T: Taker>(session: &mut Session<Converged>, load: &Load, taker: &mut T) -> u64
+    ensures { (slip : ℕ) → Spendable (view session.old.ledger) slip 140 → Spendable (view session.new.ledger) slip 140 }
+{
     for n in 0..load.lines {
         let _ = session.start(line_key(n), 1, taker);
     }
@@ -69,8 +77,10 @@ fn count_reports<T: Taker>(session: &mut Session<Converged>, load: &Load, taker:
     accepted
 }
 
-fn main(rt: HostRuntime) -> Result<(), Stop> {
-    let Some(load) = read_load(&rt) else {
+fn run(rt: &HostRuntime) -> Result<(), Stop>
+    ensures { IfErr result IsSettled }
+{
+    let Some(load) = read_load(rt) else {
         return Err(Stop::Failed(Failure::Unexpected));
     };
     let mut session = make_session(rt.alloc())?;
@@ -89,4 +99,12 @@ fn main(rt: HostRuntime) -> Result<(), Stop> {
         return Err(Stop::Failed(Failure::Output));
     }
     Ok(())
+}
+
+fn main(rt: HostRuntime) -> ExitCode {
+    match run(&rt) {
+        Ok(()) => ExitCode::SUCCESS,
+        Err(Stop::Failed(_)) => ExitCode::FAILURE,
+        Err(Stop::Owed(_)) => unreachable(),
+    }
 }

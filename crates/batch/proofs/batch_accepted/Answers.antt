@@ -6,4 +6,4 @@ use Rattle.batch.proofs.batch_accepted.Goals as goal
 pub returns : goal.returns
 returns c =
     let m = c.new.ensures in
-    (m.memory, c.count-accepted.ensures ∙ ap (λ (s : State). accepted_on s c.args.calls.now) m.becomes)
+    (m.memory, c.count_accepted.ensures ∙ ap (λ (s : State). accepted_on s c.args.calls.now) m.becomes)

@@ -8,4 +8,4 @@ use Rattle.batch.proofs.give_back.Goals as goal
 pub unreachable-requires : goal.unreachable-requires
 unreachable-requires c =
     false≢true (ap is_accepted c.in-Err.ensures.does.answers
-    ∙ shelves (view c.args.session.now.ledger) c.args.slip.id c.last.result c.requires.phase c.requires.own_val (omega (arith, c.last.ensures)))
+    ∙ shelves (view c.args.session.now.ledger) c.args.slip.id c.last.result c.requires.phase c.requires.own (omega (arith, c.last.ensures)))

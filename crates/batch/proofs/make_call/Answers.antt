@@ -15,7 +15,7 @@ returns-then-call c =
     let is = is_stepped (view c.args.session.now.ledger) call (Usage k call.uplink call.downlink) (cond link.up (places_left link.below) 0)
     (ap (λ (b : Bool). cond b (Usage k call.uplink call.downlink) (Start k)) (sym c.if-call.true))
     (ap (λ (b : Bool). cond b (places_left link.below) 0) c.requires)
-    c.usage.result _ _ c.is-ok.ensures.value e.does.answers e.does.becomes in
+    c.usage.result _ _ c.is_ok.ensures.value e.does.answers e.does.becomes in
     record { answer = is.0; after = is.1; down = stays_handed _ _ _ e.lends.hands ∙ c.requires }
 
 pub returns-else-call : goal.returns-else-call
@@ -27,5 +27,5 @@ returns-else-call c =
     let is = is_stepped (view c.args.session.now.ledger) call (Start k) (cond link.up (places_left link.below) 0)
     (ap (λ (b : Bool). cond b (Usage k call.uplink call.downlink) (Start k)) (sym c.if-call.false))
     (ap (λ (b : Bool). cond b (places_left link.below) 0) c.requires)
-    c.start.result _ _ c.is-ok-else-call.ensures.value e.does.answers e.does.becomes in
+    c.start.result _ _ c.is_ok-else-call.ensures.value e.does.answers e.does.becomes in
     record { answer = is.0; after = is.1; down = stays_handed _ _ _ e.lends.hands ∙ c.requires }

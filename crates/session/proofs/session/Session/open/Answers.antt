@@ -12,4 +12,4 @@ returns g c =
     let s = view c.args.self.now.ledger in
     let d = carried g.M.Key.LineKey.coding g.met.M.Key.LineKey.distinct g.met.M.Key.LineKey.kinds g.M.Method.column g.met.M.Method.tariff
     s _ (fed Opening 0 c.args.t (g.F.Taker.room c.args.function.now) (g.F.ChargingFunction.profile c.args.function.now)) told_opening _ refl _ g.F.Taker.book g.F.Taker.took c.args.function.now _ e.comes in
-    record { does = d.0; lends = d.1; handed = e.handed; refused = e.refused }
+    record { does = d.0; lends = d.1; handed = e.handed; unspent = e.unspent; refused = e.refused }
