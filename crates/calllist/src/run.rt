@@ -90,19 +90,27 @@ fn run(rt: &HostRuntime, input: &mut Input) -> Result<(), Ended> {
     play_on(rt, input, session, &mut link)
 }
 
-// Runs the call list on standard input, and says on standard error what is wrong where it ends early. A slip that is left
-// goes out with the error, since nobody may let it go.
-pub fn replay(rt: &HostRuntime) -> Result<(), Ended> {
-    let mut input = Input::new(rt.alloc(), rt.stdin());
+// Says on standard error why a run ends early, and at which line.
+fn explain(rt: &impl Eprint, stop: Stop, number: u64) {
+    let _ = match stop {
+        Stop::Line(wrong) => eprintln!(rt; "line {number}: {}", wrong.text()),
+        Stop::Input => eprintln!(rt; "line {number}: the input cannot be read"),
+        Stop::Output => eprintln!(rt; "the output cannot be written"),
+        Stop::Memory => eprintln!(rt; "no memory"),
+    };
+}
+
+// Runs the call list on standard input, and says on standard error what is wrong where it ends early. No slip is left.
+pub fn replay(rt: &HostRuntime) -> Result<(), Ended>
+    ensures { IfErr result IsSettled }
+{
+    let Ok(mut input) = Input::new(rt.alloc(), rt.stdin()) else {
+        explain(rt, Stop::Memory, 0);
+        return Err(Ended::Stopped(Stop::Memory));
+    };
     let result = run(rt, &mut input);
     if let Err(Ended::Stopped(stop)) = result {
-        let number = input.number;
-        let _ = match stop {
-            Stop::Line(wrong) => eprintln!(rt; "line {number}: {}", wrong.text()),
-            Stop::Input => eprintln!(rt; "line {number}: the input cannot be read"),
-            Stop::Output => eprintln!(rt; "the output cannot be written"),
-            Stop::Memory => eprintln!(rt; "no memory"),
-        };
+        explain(rt, stop, input.number);
         return Err(Ended::Stopped(stop));
     }
     result
