@@ -1,10 +1,11 @@
 // Playing calls on a session.
-ghost use Rattle.std.specs.Prelude.{◌≡◌, []};
+ghost use Rattle.std.specs.Prelude.{◌≡◌, ℕ, [], cond, None, IfErr};
 ghost use Rattle.session.specs.declared.event.Event.TheVariants.{Open as Opening, Finish as Finishing, Shelve as Shelving};
 ghost use Rattle.session.specs.Answers.{told_report};
 ghost use Rattle.session.specs.Steps.{step, seen, fed};
 ghost use Rattle.session.specs.View.{view};
-ghost use Rattle.calllist.specs.Shown.{shown, by_slip, unless_held, answer_to};
+ghost use Rattle.calllist.specs.Held.{Holds, IsSettled};
+ghost use Rattle.calllist.specs.Shown.{shown, by_slip, unless_held, answer_to, is_accepted};
 
 use crate::answer::*;
 use crate::command::*;
@@ -53,7 +54,8 @@ fn open<M: Method, F: ChargingFunction>(
     t: u32,
     held: Option<Slip>,
 ) -> (Answer, Option<Slip>)
-    ensures { result.0 ≡ unless_held held (step M.Method.column (view session.old.ledger) (seen M.Key.LineKey.coding (fed Opening 0 t (F.Taker.room function.old) (F.ChargingFunction.profile function.old)))).answer }
+    ensures answer { result.0 ≡ unless_held held (step M.Method.column (view session.old.ledger) (seen M.Key.LineKey.coding (fed Opening 0 t (F.Taker.room function.old) (F.ChargingFunction.profile function.old)))).answer }
+    ensures holds { (last : ℕ) → Holds (view session.old.ledger) held last → Holds (view session.new.ledger) result.1 (cond (is_accepted result.0) t last) }
 {
     match held {
         Some(slip) => (Answer::Refused(Refusal::WrongPhase.number()), Some(slip)),
@@ -71,7 +73,8 @@ fn finish<M: Method, F: Taker>(
     t: u32,
     held: Option<Slip>,
 ) -> (Answer, Option<Slip>)
-    ensures { result.0 ≡ by_slip held (λ s. (step M.Method.column (view session.old.ledger) (seen M.Key.LineKey.coding (fed (Finishing cause) s.id t (F.Taker.room taker.old) []))).answer) }
+    ensures answer { result.0 ≡ by_slip held (λ s. (step M.Method.column (view session.old.ledger) (seen M.Key.LineKey.coding (fed (Finishing cause) s.id t (F.Taker.room taker.old) []))).answer) }
+    ensures holds { (last : ℕ) → Holds (view session.old.ledger) held last → Holds (view session.new.ledger) result.1 (cond (is_accepted result.0) t last) }
 {
     match held {
         None => (Answer::NoSlip, None),
@@ -83,7 +86,9 @@ fn finish<M: Method, F: Taker>(
 }
 
 fn shelve<M: Method>(session: &mut Session<M>, t: u32, held: Option<Slip>) -> (Answer, Option<Slip>)
-    ensures { result.0 ≡ by_slip held (λ s. (step M.Method.column (view session.old.ledger) (seen M.Key.LineKey.coding (fed Shelving s.id t 0 []))).answer) }
+    ensures answer { result.0 ≡ by_slip held (λ s. (step M.Method.column (view session.old.ledger) (seen M.Key.LineKey.coding (fed Shelving s.id t 0 []))).answer) }
+    ensures holds { (last : ℕ) → Holds (view session.old.ledger) held last → Holds (view session.new.ledger) result.1 (cond (is_accepted result.0) t last) }
+    ensures spent { Holds (view session.old.ledger) held t → result.1 ≡ None }
 {
     match held {
         None => (Answer::NoSlip, None),
@@ -102,7 +107,8 @@ fn call<M: Method, F: ChargingFunction>(
     t: u32,
     held: Option<Slip>,
 ) -> (Answer, Option<Slip>)
-    ensures { result.0 ≡ answer_to M.Key.LineKey.coding M.Method.column (view session.old.ledger) event held t (F.Taker.room function.old) (F.ChargingFunction.profile function.old) }
+    ensures answer { result.0 ≡ answer_to M.Key.LineKey.coding M.Method.column (view session.old.ledger) event held t (F.Taker.room function.old) (F.ChargingFunction.profile function.old) }
+    ensures holds { (last : ℕ) → Holds (view session.old.ledger) held last → Holds (view session.new.ledger) result.1 (cond (is_accepted result.0) t last) }
 {
     match event {
         Event::Open => open(session, function, t, held),
@@ -157,6 +163,7 @@ fn play_line<M: Method, F: ChargingFunction>(
 ) -> (Result<(), Stop>, Option<Slip>)
 where
     M::Key: ReadKey,
+    ensures { Holds (view session.old.ledger) held last.old → Holds (view session.new.ledger) result.1 last.new }
 {
     match read_step::<M::Key>(words) {
         Err(wrong) => (Err(Stop::Line(wrong)), held),
@@ -182,7 +189,9 @@ fn put_away<M: Method>(
     held: Option<Slip>,
     last: u32,
     played: Result<(), Stop>,
-) -> Result<(), Ended> {
+) -> Result<(), Ended>
+    ensures { Holds (view session.old.ledger) held last → IfErr result IsSettled }
+{
     match shelve(session, last, held) {
         (_, Some(slip)) => Err(Ended::Owed(slip)),
         (answer, None) => {
@@ -215,6 +224,7 @@ pub(crate) fn play<M: Method, F: ChargingFunction>(
 ) -> Result<(), Ended>
 where
     M::Key: ReadKey,
+    ensures { IfErr result IsSettled }
 {
     let mut held: Option<Slip> = None;
     let mut last: u32 = 0;

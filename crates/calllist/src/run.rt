@@ -1,4 +1,7 @@
 // Running a whole call list: what is before the calls, the calls, and the book.
+ghost use Rattle.std.specs.Prelude.{IfErr};
+ghost use Rattle.calllist.specs.Held.{IsSettled};
+
 use crate::answer::*;
 use crate::input::*;
 use crate::play::*;
@@ -33,7 +36,9 @@ fn play_any<F: ChargingFunction>(
     input: &mut Input,
     session: &mut AnySession,
     link: &mut Link<F>,
-) -> Result<(), Ended> {
+) -> Result<(), Ended>
+    ensures { IfErr result IsSettled }
+{
     match session {
         AnySession::Converged(session) => play(rt, input, session, link),
         AnySession::Offline(session) => play(rt, input, session, link),
@@ -47,7 +52,9 @@ fn play_on(
     input: &mut Input,
     session: Option<AnySession>,
     link: &mut Link<Book>,
-) -> Result<(), Ended> {
+) -> Result<(), Ended>
+    ensures { IfErr result IsSettled }
+{
     let session = match session {
         Some(session) => Some(session),
         None => match await_session(rt, input, link) {
@@ -65,7 +72,9 @@ fn play_on(
 }
 
 // Runs a call list to its end.
-fn run(rt: &HostRuntime, input: &mut Input) -> Result<(), Ended> {
+fn run(rt: &HostRuntime, input: &mut Input) -> Result<(), Ended>
+    ensures { IfErr result IsSettled }
+{
     let Setup {
         session,
         overrides,

@@ -124,17 +124,24 @@ module _ {K : Type 0} (x : Coding K) (column : Column) (s : State) where
       later true = omega arith
       later false = h.late
 
-  -- the same, by what the call promises, from any time on that is not before the call's
-  pub carries_on : (e : Event K) (t intake : ℕ) (answer : Answer) (s' : State) → Does x column s (fed e 0 t intake []) answer s' → may_report e ≡ true
-      → (slip u : ℕ) → t ≤ u → Spendable s slip u → Spendable s' slip u
-  carries_on e t intake answer s' d r slip u soon h =
-      let o : Outcome Answer = step column s (seen x (fed e 0 t intake [])) in
-      let k = stays e slip u t intake r h o refl in
+  -- the same, by what the call promises
+  pub carries : (e : Event K) (t intake : ℕ) (answer : Answer) (s' : State) → Does x column s (fed e 0 t intake []) answer s' → may_report e ≡ true
+      → (slip last : ℕ) → Spendable s slip last → Spendable s' slip (cond (is_accepted answer) t last)
+  carries e t intake answer s' d r slip last h =
+      let k = stays e slip last t intake r h (step column s (seen x (fed e 0 t intake []))) refl in
+      let same = ap (λ (a : Answer). cond (is_accepted a) t last) d.answers in
       record {
         phase = ap (λ (y : State). y.marks.phase) d.becomes ∙ k.phase;
         own = k.own ∙ sym (ap (λ (y : State). y.id) d.becomes);
-        late = omega (arith, ap (λ (y : State). y.last) d.becomes, k.late, within (accepted o));
+        late = omega (arith, ap (λ (y : State). y.last) d.becomes, k.late, same);
       }
+
+  -- and from any time on that is not before the call's
+  pub carries_on : (e : Event K) (t intake : ℕ) (answer : Answer) (s' : State) → Does x column s (fed e 0 t intake []) answer s' → may_report e ≡ true
+      → (slip u : ℕ) → t ≤ u → Spendable s slip u → Spendable s' slip u
+  carries_on e t intake answer s' d r slip u soon h =
+      let k = carries e t intake answer s' d r slip u h in
+      record { phase = k.phase; own = k.own; late = omega (arith, k.late, within (is_accepted answer)) }
     where
       within : (b : Bool) → cond b t u ≤ u
       within true = soon
