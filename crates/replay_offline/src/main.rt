@@ -3,7 +3,12 @@
 
 use calllist::play::Ended;
 use calllist::run::replay;
+use std::process::ExitCode;
 
-fn main(rt: HostRuntime) -> Result<(), Ended> {
-    replay(&rt)
+fn main(rt: HostRuntime) -> ExitCode {
+    match replay(&rt) {
+        Ok(()) => ExitCode::SUCCESS,
+        Err(Ended::Stopped(_)) => ExitCode::FAILURE,
+        Err(Ended::Owed(_)) => unreachable(),
+    }
 }
