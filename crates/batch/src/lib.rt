@@ -1,4 +1,4 @@
-// A list of starts and usage reports on a session, for programs that are not written in Rattle.
+// A list of starts and usage reports on a session. The crate batch_c offers it to programs that are not written in Rattle.
 #![tactic(auto)]
 
 ghost use Rattle.std.specs.Prelude.{◌≡◌, Bool, false};
@@ -94,9 +94,8 @@ pub fn count_accepted(session: &mut Session<Converged>, calls: &[Call]) -> u64
     accepted
 }
 
-// The same on a new session, for other languages; only whether there was memory for it is left open.
-#[unsafe(no_mangle)]
-pub extern "C" fn batch_accepted(heap: Global, calls: &[Call]) -> u64
+// The same on a new session; only whether there was memory for it is left open.
+pub fn batch_accepted(heap: Global, calls: &[Call]) -> u64
     ensures { (memory : Bool) × (result ≡ accepted_on (new_session memory) calls.now) }
 {
     let mut session = Session::new(heap, Converged, CHARGING_ID, NO_LIMITS).session;
