@@ -1,5 +1,5 @@
 -- Bytes that are the header and the encoding of well-formed requests are read back.
-use Rattle.std.proofs.Common.{◌≡◌, ℕ, ◌+◌, ◌*◌, ◌≤◌, leb, List, [], ◌++◌, length, get_or, take, drop, Ok, sym, refl, ap, ◌∙◌, zero-add, arith}
+use Rattle.std.proofs.Common.{◌≡◌, ℕ, ◌*◌, ◌≤◌, leb, List, [], ◌++◌, length, get_or, take, drop, Ok, sym, refl, ap, ◌∙◌, zero-add, arith}
 use Rattle.std.specs.List.{AllByRecursion}
 use Rattle.std.proofs.lemmas.List.{append-nil, take_at, drop_at, take-take, drop-take, length-append, length-take}
 use Rattle.std.proofs.lemmas.Bool.{and_parts, leb-true}

@@ -19,10 +19,10 @@ use Rattle.session.specs.declared.state.Trigger.{Trigger}
 use Rattle.session.specs.Answers.{Answer, refused, number, told_opening, told_report, told_finish, told_shelving}
 use Rattle.session.specs.Deciding.{Call, decide}
 use Rattle.session.specs.Laws.{is_container}
-use Rattle.session.specs.Performing.{Outcome, acted, no_place, all_waiting, head, head_of, offer_taken, report, reported, report_unless, reporting, finish_unless, finishing, shelving, opening}
+use Rattle.session.specs.Performing.{Outcome, acted, no_place, all_waiting, head, head_of, offer_taken, reported, report_unless, reporting, finish_unless, finishing, shelving, opening}
 use Rattle.session.specs.Performing.{report_above}
 use Rattle.session.specs.Profiles.{applied, applied_one, permitted, permitted_by, override_in_range, overridden}
-use Rattle.session.specs.State.{State, trigger, no_trigger}
+use Rattle.session.specs.State.{State, no_trigger}
 use Rattle.session.specs.Steps.{Fed, answered, step, step_of, accepted as was_accepted}
 use Rattle.session.proofs.Fair.{Sound, FairAct, GoodInTime, is_finish, no_way, decide_fair}
 

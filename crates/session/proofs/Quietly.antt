@@ -1,13 +1,11 @@
 -- Quiet reports: the step of one, and that its act fits.
-use Rattle.std.proofs.Common.{◌≡◌, ℕ, ◌+◌, ◌≤◌, Bool, true, false, cond, not, ltb, List, [], ◌++◌, length, set, Some, None, Ok, Option, Result, sym, ap, ◌∙◌, arith}
+use Rattle.std.proofs.Common.{◌≡◌, ℕ, ◌+◌, ◌≤◌, false, not, List, [], ◌++◌, length, set, Some, None, Ok, Option, Result, sym, ap, ◌∙◌, arith}
 use Rattle.std.proofs.lemmas.List.{append-nil}
 use Rattle.std.proofs.lemmas.Bool.{cond-false, le-ltb}
 use Rattle.entries.specs.declared.key.LineId.{LineId}
 use Rattle.entries.specs.Entries.{largest_32}
-use Rattle.session.specs.declared.answer.Due.{Due}
 use Rattle.session.specs.declared.answer.Due.TheVariants.{Nothing as NotDue}
 use Rattle.session.specs.declared.answer.Refusal.{Refusal}
-use Rattle.session.specs.declared.answer.Refusal.TheVariants.{TooLarge, WaitingFull}
 use Rattle.session.specs.declared.answer.Reported.{Reported}
 use Rattle.session.specs.declared.event.Event.TheVariants.{Usage}
 use Rattle.session.specs.declared.ledger.Ledger.{Ledger}
@@ -16,7 +14,7 @@ use Rattle.session.specs.declared.state.Edit.TheVariants.{Put}
 use Rattle.session.specs.declared.state.Line.{Line}
 use Rattle.session.specs.declared.state.Phase.{Phase}
 use Rattle.session.specs.declared.state.Phase.TheVariants.{Open}
-use Rattle.session.specs.Deciding.{quiet, count_act, usage_at, decide, decide_in}
+use Rattle.session.specs.Deciding.{quiet, usage_at, decide, decide_in}
 use Rattle.session.specs.Fit.{Fit}
 use Rattle.session.specs.Performing.{Outcome, acted, closed_by, no_place, report, report_unless, reported, reporting, most_waiting}
 use Rattle.session.specs.Quiet.{Quiet, counted_at, quietly}

@@ -1,17 +1,16 @@
 -- The slip of an open session can be spent: an opening makes it so, calls that may report leave it so, and then a shelving
 -- takes the slip.
 use Rattle.std.proofs.Common.{◌≡◌, ℕ, ◌-◌, ◌≤◌, Bool, true, false, cond, not, ◌&&◌, ◌||◌, eqb, ltb, leb, List, [], length, Some, None, Ok, Err, Option, Result, sym, refl, ap, ◌∙◌, subst, arith}
-use Rattle.std.proofs.lemmas.Bool.{cond_both, cond-true, cond-false, eq-eqb, le-ltb, ltb-false}
+use Rattle.std.proofs.lemmas.Bool.{cond_both, cond-true, cond-false, eq-eqb, le-ltb}
 use Rattle.entries.specs.declared.key.LineId.{LineId}
 use Rattle.entries.specs.declared.taker.Override.{Override}
 use Rattle.entries.specs.Columns.{Column}
 use Rattle.entries.specs.Keys.{Coding}
-use Rattle.entries.specs.Triggers.{tariff_time, session_time_limit, session_volume_limit, line_time_limit, line_volume_limit, is_condition, session_end, abort}
+use Rattle.entries.specs.Triggers.{tariff_time, session_time_limit, session_volume_limit, line_time_limit, line_volume_limit, is_condition}
 use Rattle.session.specs.declared.answer.Due.{Due}
 use Rattle.session.specs.declared.answer.Opened.{Opened}
 use Rattle.session.specs.declared.answer.Refusal.{Refusal}
-use Rattle.session.specs.declared.answer.Refusal.TheVariants.{Early, OutOfRange, LineActive, NoActiveLine, TooManyLines, TooLarge, IntakeTooSmall}
-use Rattle.session.specs.declared.answer.Reported.{Reported}
+use Rattle.session.specs.declared.answer.Refusal.TheVariants.{Early, OutOfRange, LineActive, NoActiveLine, TooManyLines, TooLarge}
 use Rattle.session.specs.declared.event.Event.{Event}
 use Rattle.session.specs.declared.event.Event.TheVariants.{Open as Opening, Start, Usage, End, Change, Tick, Intervene, Push, Finish, Shelve}
 use Rattle.session.specs.declared.state.Act.{Act}
@@ -19,12 +18,12 @@ use Rattle.session.specs.declared.state.Line.{Line}
 use Rattle.session.specs.declared.state.Phase.{Phase}
 use Rattle.session.specs.declared.state.Phase.TheVariants.{Fresh, Open, Ended, Shelved}
 use Rattle.session.specs.Answers.{Answer, told_opening, told_report, told_shelving}
-use Rattle.session.specs.Deciding.{Call, most_lines, largest_period, start_at, start_act, count_act, usage_at, usage_act, end_at, end_act, change_act, tick_act, open_act, timely, decide, decide_in}
+use Rattle.session.specs.Deciding.{Call, most_lines, largest_period, start_at, count_act, usage_at, end_at, change_act, tick_act, open_act, timely, decide, decide_in}
 use Rattle.session.specs.Laws.{Does}
 use Rattle.session.specs.Performing.{Outcome, acted, no_place, offer, report_above, reported, report_unless, reporting, shelving, opened, opening}
 use Rattle.session.specs.Slips.{Spendable}
 use Rattle.session.specs.State.{State, trigger, can_fire, line_at, place_of, limit_met, volume_sum, counted, over_total, open_octets}
-use Rattle.session.specs.Steps.{Fed, fed, seen, seen_event, may_report, answered, step, accepted, is_accepted}
+use Rattle.session.specs.Steps.{fed, seen, seen_event, may_report, answered, step, accepted, is_accepted}
 use Rattle.session.proofs.Fair.{no_way}
 use Rattle.session.proofs.Lawful.{reports}
 

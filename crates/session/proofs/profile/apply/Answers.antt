@@ -1,4 +1,4 @@
-use Rattle.std.proofs.Common.{◌-◌, true, false, ◌∙◌, arith}
+use Rattle.std.proofs.Common.{true, false, ◌∙◌, arith}
 use Rattle.session.proofs.Overrides.{turn_some, turn_past, turn_all}
 use Rattle.session.proofs.profile.apply.Goals as goal
 use Rattle.session.proofs.profile.apply.Goals.{in-Some+then-apply_one, in-Some+else-apply_one, in_default}
