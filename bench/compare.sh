@@ -1,10 +1,11 @@
 #!/usr/bin/env bash
-# Runs random call lists on the proved session (target/bin/replay) and on the hand-written one, and compares what they print.
+# Runs random call lists on the proved session (the program replay) and on the hand-written one, and compares what they print.
 # usage: bench/compare.sh FIRST LAST CALLS
+# Before it: (cd crates/batch_c && rt lib) && (cd crates/replay && rt run < stdin) && cargo build --release --manifest-path bench/Cargo.toml
 set -euo pipefail
 cd "$(dirname "$0")/.."
 plain=bench/target/release/bench
-proved=target/bin/replay
+proved=crates/replay/out/replay
 for program in "$plain" "$proved"; do
   [ -x "$program" ] || { echo "$program is not built"; exit 1; }
 done

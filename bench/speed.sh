@@ -1,7 +1,7 @@
 #!/usr/bin/env bash
 # Instructions (callgrind) and time of a usage report that closes nothing, on the proved session and on the hand-written one:
 # the same list of calls in one program, the proved one through its static library.
-#   rt staticlib batch && cargo build --release --manifest-path bench/Cargo.toml && bench/speed.sh
+#   (cd crates/batch_c && rt lib) && cargo build --release --manifest-path bench/Cargo.toml && bench/speed.sh
 set -euo pipefail
 cd "$(dirname "$0")/.."
 bench=bench/target/release/bench
