@@ -1,7 +1,10 @@
 // Standard input, line by line.
+ghost use Rattle.std.specs.Prelude.{◌≡◌, IfOk, IfErr};
+ghost use Rattle.std.specs.IoError.{error_kind};
+
 use std::alloc::Global;
 use std::io;
-use std::io::{BufRead, BufReader, Stdin};
+use std::io::{BufRead, BufReader, ErrorKind, Stdin};
 
 #[derive(Drop)]
 pub struct Input {
@@ -16,8 +19,11 @@ pub struct Input {
 pub struct Unreadable;
 
 impl Input {
-    // Fails where there is no memory for the reader's buffer.
-    pub(crate) fn new(heap: Global, stdin: Stdin) -> io::Result<Input> {
+    // Fails only where there is no memory for the reader's buffer; nothing is read then.
+    pub(crate) fn new(heap: Global, stdin: Stdin) -> io::Result<Input>
+        ensures number { IfOk result (λ input. input.number ≡ 0) }
+        ensures err { IfErr result (λ e. error_kind e ≡ ErrorKind.OutOfMemory) }
+    {
         Ok(Input {
             reader: BufReader::new(heap, stdin)?,
             line: String::new(heap),
