@@ -13,7 +13,7 @@ pub struct Call {
 }
 
 unsafe extern "C" {
-    /// The crate `batch`: it asks nothing of the calls. A slice goes as a pointer and a length.
+    /// The crate `batch_c`: it asks nothing of the calls. A slice goes as a pointer and a length.
     fn batch_accepted(calls: *const Call, length: usize) -> u64;
 }
 

@@ -2,12 +2,6 @@ use Rattle.std.proofs.Common.{refl, arith}
 use Rattle.session.proofs.Staying.{carries_on}
 use Rattle.sample.proofs.count.Goals as goal
 
-pub returns-in_err-start : goal.returns-in_err-start
-returns-in_err-start g c = λ slip h. carries_on _ _ _ _ _ _ _ _ c.start.ensures.does refl slip 140 (omega arith) h
-
-pub returns-in_err-expect : goal.returns-in_err-expect
-returns-in_err-expect g c = λ slip h. carries_on _ _ _ _ _ _ _ _ c.start.ensures.does refl slip 140 (omega arith) h
-
 pub returns-in_err-usage : goal.returns-in_err-usage
 returns-in_err-usage g c = λ slip h.
     carries_on _ _ _ _ _ _ _ _ c.usage.ensures.does refl slip 140 (omega arith)
