@@ -6,13 +6,14 @@ use crate::entry::*;
 use crate::profile::*;
 use crate::refusal::Numbered;
 use crate::taker::*;
+use thiserror::Error;
 
 // Why the making of a book or a journal is refused.
-#[derive(Clone, Copy, PartialEq, Eq, Debug)]
+#[derive(Clone, Copy, PartialEq, Eq, Debug, Error)]
 pub enum Unmade {
-    // the profile has more than 32 overrides
+    #[error("the profile has more than 32 overrides")]
     TooManyOverrides,
-    // the lent memory is too long, or too short, with its length
+    #[error("the lent memory is too long or too short: {0}")]
     WrongLength(usize),
 }
 
