@@ -79,6 +79,15 @@ abbrev pub start_act : State → Option LineId → ℕ → Result Act Refusal
 start_act s None t = Err OutOfRange
 start_act s (Some k) t = start_at s k t (place_of s k)
 
+-- the line that a key names and its place, where it is active
+abbrev pub active_at : State → LineId → Option ℕ → Result (LineId × ℕ) Refusal
+active_at s k None = Err NoActiveLine
+active_at s k (Some i) = cond (line_at s i).active (Ok (k, i)) (Err NoActiveLine)
+
+abbrev pub active_place : State → Option LineId → Result (LineId × ℕ) Refusal
+active_place s None = Err OutOfRange
+active_place s (Some k) = active_at s k (place_of s k)
+
 -- a usage report: it is counted; then the session's volume limit closes all active lines, or else the line's own limit
 -- closes that line
 abbrev pub count_act : State → LineId → (i uplink downlink : ℕ) → Line → Act

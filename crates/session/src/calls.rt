@@ -10,7 +10,6 @@ ghost use Rattle.session.specs.View.{view};
 use crate::answer::*;
 use crate::event::Event;
 use crate::ledger::*;
-use crate::perform::make_head;
 use crate::profile::apply;
 use crate::state::*;
 use entries::entry::INITIAL;
@@ -38,7 +37,7 @@ impl Ledger {
         requires room { 1 ≤ F.Taker.room function.old }
         ensures { Comes (opened M.Method.column (F.ChargingFunction.profile function.old) (view self.old) act t) (Ok result) (view self.new) F.Taker.book F.Taker.took function.old function.new }
     {
-        let head = make_head(INITIAL, 0, self.marks.period, 0, t, self.id);
+        let head = self.head(INITIAL, 0, 0, t);
         self.perform(act, t);
         let opened = apply(method, function, &mut self.settings);
         let _ = function.take(&head, &[]);
@@ -67,10 +66,7 @@ impl Ledger {
         ensures comes { Comes (reporting (view self.old) t (T.Taker.room taker.old) (Ok act)) result (view self.new) T.Taker.book T.Taker.took taker.old taker.new }
         ensures refused { is_ok result ≡ false → (self.new ≡ self.old) × (taker.new ≡ taker.old) }
     {
-        if let Some(why) = self.no_place(&act, t) {
-            return Err(why);
-        }
-        let closed = self.closing(&act, t);
+        let closed = self.places(&act, t)?;
         self.perform(act, t);
         let due = self.report(act.due, act.report, t, taker);
         Ok(Reported { closed, due })
@@ -100,10 +96,7 @@ impl Ledger {
         ensures comes { Comes (finishing (view self.old) t (T.Taker.room taker.old) (Ok act)) result (view self.new) T.Taker.book T.Taker.took taker.old taker.new }
         ensures refused { is_ok result ≡ false → (self.new ≡ self.old) × (taker.new ≡ taker.old) }
     {
-        if let Some(why) = self.no_place(&act, t) {
-            return Err(why);
-        }
-        let n = self.waiting.len() + self.closing(&act, t);
+        let n = self.waiting.len() + self.places(&act, t)?;
         if taker.intake() < n + 1 {
             return Err(Refusal::IntakeTooSmall);
         }

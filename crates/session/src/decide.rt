@@ -1,6 +1,6 @@
 // Deciding what a call does, or why it is refused. Nothing here changes a session.
-ghost use Rattle.std.specs.Prelude.{◌≡◌, ◌+◌, ◌<◌, false, IfSome, Some, None, vec_len, nat_le};
-ghost use Rattle.session.specs.Deciding.{quiet, closing, open_act, start_at, start_act, count_act, usage_act, ending, end_act};
+ghost use Rattle.std.specs.Prelude.{◌≡◌, ◌+◌, ◌<◌, false, IfSome, IfOk, Some, None, vec_len, nat_le};
+ghost use Rattle.session.specs.Deciding.{quiet, closing, open_act, start_at, start_act, count_act, active_place, usage_act, ending, end_act};
 ghost use Rattle.session.specs.Deciding.{changes_full, changed_marks, changing, change_act, tick_act, intervene_act, finish_act, shelve_act, decide};
 ghost use Rattle.session.specs.Sound.{Bounded};
 ghost use Rattle.session.specs.State.{trigger, can_fire, limit_met, is_urgent, counted, over_total, open_octets, volume_sum, line_at, place_of};
@@ -9,7 +9,6 @@ ghost use Rattle.session.specs.View.{view};
 use crate::answer::Refusal;
 use crate::event::Event;
 use crate::ledger::*;
-use crate::lines::*;
 use crate::state::*;
 use entries::entry::*;
 use entries::key::LineId;
@@ -121,7 +120,7 @@ impl Ledger {
         ensures place { result ≡ place_of (view self.now) id }
         ensures inside { IfSome result (λ i. i < vec_len self.now.lines) }
     {
-        find(&self.lines, id)
+        self.lines.iter().position(|line| line.id == id)
     }
 
     pub(crate) fn line(&self, i: usize) -> Line
@@ -129,7 +128,7 @@ impl Ledger {
         ensures read { result ≡ line_at (view self.now) i }
         ensures bounded { Bounded result }
     {
-        line_at(&self.lines, i)
+        self.lines[i]
     }
 
     fn open_act(&self, t: u32) -> Act
@@ -146,9 +145,7 @@ impl Ledger {
     fn start_act(&self, key: Option<LineId>, t: u32) -> Result<Act, Refusal>
         ensures { result ≡ start_act (view self.now) key t }
     {
-        let Some(id) = key else {
-            return Err(Refusal::OutOfRange);
-        };
+        let id = key.ok_or(Refusal::OutOfRange)?;
         match self.place(id) {
             Some(i) => self.restart(id, i, t),
             None => self.add_line(id, t),
@@ -224,20 +221,24 @@ impl Ledger {
         quiet_act(edit, marks, false)
     }
 
+    // The line of a key and its index, where it is active.
+    fn active_place(&self, key: Option<LineId>) -> Result<(LineId, usize), Refusal>
+        ensures found { result ≡ active_place (view self.now) key }
+        ensures inside { IfOk result (λ a. a.1 < vec_len self.now.lines) }
+    {
+        let id = key.ok_or(Refusal::OutOfRange)?;
+        let i = self.place(id).ok_or(Refusal::NoActiveLine)?;
+        if !self.line(i).active {
+            return Err(Refusal::NoActiveLine);
+        }
+        Ok((id, i))
+    }
+
     fn usage_act(&self, key: Option<LineId>, up: u32, down: u32) -> Result<Act, Refusal>
         ensures { result ≡ usage_act (view self.now) key up down }
     {
-        let Some(id) = key else {
-            return Err(Refusal::OutOfRange);
-        };
-        let Some(i) = self.place(id) else {
-            return Err(Refusal::NoActiveLine);
-        };
-        let line = self.line(i);
-        if !line.active {
-            return Err(Refusal::NoActiveLine);
-        }
-        let line = count(line, up, down);
+        let (id, i) = self.active_place(key)?;
+        let line = count(self.line(i), up, down);
         if is_over_total(&line) {
             return Err(Refusal::TooLarge);
         }
@@ -257,17 +258,8 @@ impl Ledger {
     fn end_act(&self, key: Option<LineId>) -> Result<Act, Refusal>
         ensures { result ≡ end_act (view self.now) key }
     {
-        let Some(id) = key else {
-            return Err(Refusal::OutOfRange);
-        };
-        let Some(i) = self.place(id) else {
-            return Err(Refusal::NoActiveLine);
-        };
-        if self.line(i).active {
-            Ok(self.ending(id, i))
-        } else {
-            Err(Refusal::NoActiveLine)
-        }
+        let (id, i) = self.active_place(key)?;
+        Ok(self.ending(id, i))
     }
 
     // Whether a change is the last that the limit of changes allows.
@@ -379,7 +371,7 @@ impl Ledger {
         }
         if self.can_fire(LINE_TIME) {
             let chosen = Selection::OpenFor(self.trigger(LINE_TIME).threshold);
-            let urgent = self.is_urgent(LINE_TIME) && count_closing(&self.lines, chosen, t) > 0;
+            let urgent = self.is_urgent(LINE_TIME) && self.closing(chosen, t) > 0;
             return closing_act(Edit::Keep, chosen, LINE_TIME, marks, urgent);
         }
         quiet_act(Edit::Keep, marks, false)

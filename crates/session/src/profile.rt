@@ -82,12 +82,10 @@ pub(crate) fn apply<M: Method, F: ChargingFunction>(
 {
     let mut applied: usize = 0;
     let mut seen: usize = 0;
-    for i in 0..MOST_OVERRIDES {
-        if let Some(o) = function.override_at(i) {
-            seen += 1;
-            if apply_one(settings, method.rule(o.trigger), o) {
-                applied += 1;
-            }
+    while let Some(o) = function.override_at(seen) {
+        seen += 1;
+        if apply_one(settings, method.rule(o.trigger), o) {
+            applied += 1;
         }
     }
     Opened {

@@ -60,6 +60,15 @@ pub enum Selection {
     OpenFor(u64),
 }
 
+// A closing of lines into containers: which lines, with which cause, in which tariff period, and when.
+#[derive(Clone, Copy)]
+pub struct Closing {
+    pub chosen: Selection,
+    pub cause: u8,
+    pub period: u16,
+    pub time: u32,
+}
+
 // What an accepted call does: the edit, the lines that close and with which cause, the line that then stops, the marks
 // after it, and whether a report is due by the call itself, with its cause.
 #[derive(Clone, Copy)]

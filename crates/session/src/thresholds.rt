@@ -6,6 +6,7 @@ use crate::state::*;
 use entries::entry::MOST_OCTETS;
 use entries::method::*;
 use entries::trigger::*;
+use std::array;
 
 // The thresholds of the limits; 0 is no limit.
 #[derive(Clone, Copy)]
@@ -88,11 +89,9 @@ impl Thresholds {
     pub(crate) fn settings<M: Method>(&self, method: &M) -> [Trigger; TRIGGERS]
         ensures { result ≡ settings_made M.Method.column self.now }
     {
-        let mut settings = [NO_TRIGGER; TRIGGERS];
-        for i in 0..TRIGGERS {
+        array::from_fn(|i| {
             let n = i as u8;
-            settings[i] = self.make_trigger(method.rule(n), n);
-        }
-        settings
+            self.make_trigger(method.rule(n), n)
+        })
     }
 }
