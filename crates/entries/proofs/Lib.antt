@@ -1,4 +1,3 @@
 pub mod WrittenLaws
 pub mod SequenceLaws
 pub mod SumLaws
-pub mod Profiles

@@ -1,5 +1,6 @@
 pub mod Entries
 pub mod Triggers
+pub mod Numbers
 pub mod Keys
 pub mod Columns
 pub mod Requests

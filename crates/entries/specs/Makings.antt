@@ -1,6 +1,8 @@
 -- Why the making of a book or a journal is refused.
-use Rattle.std.specs.Prelude.{ℕ, Bool, true, false, List, [], Some, None, Option}
+use Rattle.std.specs.Prelude.{◌≡◌, ℕ, cond, ◌||◌, List, length, Some, None, Ok, Err, Option, Result, nat_lt}
+use Rattle.entries.specs.declared.profile.Profile.{Profile}
 use Rattle.entries.specs.declared.making.Unmade.{Unmade}
+use Rattle.entries.specs.declared.taker.Override.{Override}
 use Rattle.entries.specs.declared.making.Unmade.TheVariants.{TooManyOverrides, WrongLength}
 
 -- the most overrides of a profile
@@ -17,12 +19,14 @@ abbrev pub unmade_place : Unmade → Option ℕ
 unmade_place TooManyOverrides = None
 unmade_place (WrongLength n) = Some n
 
--- the lent list, or nothing of it where a making is refused
-abbrev pub lent_unless : {X : Type 0} → Option Unmade → List X → List X
-lent_unless None xs = xs
-lent_unless (Some r) xs = []
+-- why a charging function with so many overrides over so many places of lent memory is not made, where it needs so many at
+-- least and may have so many at most; the profile is looked at first
+abbrev pub unmade : (overrides length fewest most : ℕ) → Option Unmade
+unmade overrides length fewest most =
+    cond (nat_lt most_overrides overrides) (Some TooManyOverrides)
+    (cond (nat_lt length fewest || nat_lt most length) (Some (WrongLength length)) None)
 
--- whether what is made takes anything at all
-abbrev pub made_live : Option Unmade → Bool
-made_live None = true
-made_live (Some r) = false
+-- the profile that is lent where nothing stands against it
+abbrev pub Lent : List Override → (length fewest most : ℕ) → Result Profile Unmade → Type 0
+Lent profile n fewest most (Ok p) = (unmade (length profile) n fewest most ≡ None) × (p ≡ profile)
+Lent profile n fewest most (Err why) = unmade (length profile) n fewest most ≡ Some why

@@ -1,5 +1,6 @@
 -- The form of a request, and what a taker answers to one.
-use Rattle.std.specs.Prelude.{ℕ, ◌+◌, Bool, true, cond, ◌&&◌, List, [], ◌∷◌, length, Ok, Err, Result, ◌==◌, nat_le, nat_lt}
+use Rattle.std.specs.Prelude.{ℕ, ◌+◌, Bool, cond, ◌&&◌, List, length, Ok, Err, Result, ◌==◌, nat_le, nat_lt}
+use Rattle.std.specs.List.{list_all}
 use Rattle.entries.specs.declared.entry.Entry.{Entry}
 use Rattle.entries.specs.declared.taker.Declined.{Declined}
 use Rattle.entries.specs.declared.taker.Declined.TheVariants.{Malformed, IntakeTooSmall}
@@ -13,8 +14,7 @@ container_formed e =
     && (nat_le e.uplink.0 most_octets && nat_le e.downlink.0 most_octets)))
 
 abbrev pub containers_formed : List Entry → Bool
-containers_formed [] = true
-containers_formed (e ∷ es) = container_formed e && containers_formed es
+containers_formed es = list_all container_formed es
 
 -- the head of n containers: any cause, period and time; a charging id for its code; no octets
 abbrev pub head_formed : Entry → ℕ → Bool

@@ -1,11 +1,11 @@
 // A book: a charging function that writes requests into a lent table of entries.
 ghost use Rattle.std.specs.Prelude.{◌≡◌, ◌+◌, ◌≤◌, ◌∷◌, length};
-ghost use Rattle.entries.specs.Books.{entries_of, places_left, overrides_of, Grown, NewBook, unmade_book};
+ghost use Rattle.entries.specs.Books.{entries_of, places_left, overrides_of, Grown, BookMade};
 ghost use Rattle.entries.specs.Written.{written};
 
 use crate::entry::*;
 use crate::making::*;
-use crate::request::*;
+use crate::profile::*;
 use crate::taker::*;
 
 // The most entries of a lent table.
@@ -15,9 +15,7 @@ pub const MOST_ENTRIES: usize = 4096;
 pub struct Book<'a> {
     table: &'a mut [Entry],
     used: usize,
-    // whether the making was not refused
-    live: bool,
-    overrides: &'a [Override],
+    profile: Profile<'a>,
 }
 
 // Writes a head and its containers from a place on.
@@ -29,42 +27,23 @@ fn write_request(table: &mut [Entry], at: usize, head: &Entry, containers: &[Ent
     table[at + 1..at + 1 + containers.len()].copy_from_slice(containers);
 }
 
-// Why a book over so many overrides and entries is not made.
-fn unmade(overrides: usize, entries: usize) -> Option<Unmade>
-    ensures { result ≡ unmade_book overrides entries }
-{
-    if overrides > MOST_OVERRIDES {
-        return Some(Unmade::TooManyOverrides);
-    }
-    if entries > MOST_ENTRIES {
-        return Some(Unmade::WrongLength(entries));
-    }
-    None
-}
-
 impl<'a> Book<'a> {
     // An empty book over a lent table of up to 4,096 entries, with a profile of up to 32 overrides. The making writes
     // nothing.
-    pub fn new(table: &'a mut [Entry], overrides: &'a [Override]) -> Made<Book<'a>>
-        ensures { NewBook table.old overrides.now result.refused result.value }
+    pub fn new(
+        table: &'a mut [Entry],
+        overrides: &'a [Override],
+    ) -> Result<Book<'a>, Refused<Unmade, &'a mut [Entry]>>
+        ensures { BookMade table.old overrides.now result }
     {
-        let refused = unmade(overrides.len(), table.len());
-        if refused.is_some() {
-            let value = Book {
+        match lend(overrides, table.len(), 0, MOST_ENTRIES) {
+            Ok(profile) => Ok(Book {
                 table,
                 used: 0,
-                live: false,
-                overrides: &[],
-            };
-            return Made { value, refused };
+                profile,
+            }),
+            Err(why) => Err(Refused { why, left: table }),
         }
-        let value = Book {
-            table,
-            used: 0,
-            live: true,
-            overrides,
-        };
-        Made { value, refused }
     }
 
     // The entries taken.
@@ -84,23 +63,14 @@ impl<'a> Taker for Book<'a> {
     ghost took = { Grown };
 
     fn intake(&self) -> usize {
-        if !self.live {
-            return 0;
-        }
         self.table.len().saturating_sub(self.used)
     }
 
     fn take(&mut self, head: &Entry, containers: &[Entry]) -> Result<(), Declined> {
-        if !request_formed(head, containers) {
-            return Err(Declined::Malformed);
-        }
-        let n = containers.len();
-        if n >= self.intake() {
-            return Err(Declined::IntakeTooSmall);
-        }
+        admit(head, containers, self.intake())?;
         let used = self.used;
         write_request(self.table, used, head, containers);
-        self.used = used + n + 1;
+        self.used = used + (containers.len() + 1);
         Ok(())
     }
 }
@@ -109,9 +79,6 @@ impl<'a> ChargingFunction for Book<'a> {
     ghost profile = { overrides_of };
 
     fn override_at(&self, i: usize) -> Option<Override> {
-        if i >= MOST_OVERRIDES || i >= self.overrides.len() {
-            return None;
-        }
-        Some(self.overrides[i])
+        self.profile.get(i)
     }
 }

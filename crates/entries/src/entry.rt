@@ -1,17 +1,48 @@
 // Entries: what a book is a list of. A request is a head and the containers that follow it.
 
+ghost use Rattle.std.specs.Prelude.{◌≡◌};
+ghost use Rattle.entries.specs.Numbers.{kind_number, IsKindOf};
+
 use std::fmt;
 
-// Entry kinds: the first three are heads, the others containers.
-pub const INITIAL: u8 = 1;
+// The kinds of entries: the first three are heads, the others containers.
+#[derive(Clone, Copy, PartialEq, Eq, Debug)]
+pub enum Kind {
+    Initial = 1,
+    Update,
+    Termination,
+    ServiceLine,
+    QosLine,
+}
 
-pub const UPDATE: u8 = 2;
+// A number that no kind of entries has.
+#[derive(Clone, Copy, PartialEq, Eq, Debug)]
+pub struct NoKind;
 
-pub const TERMINATION: u8 = 3;
+impl Kind {
+    pub fn number(self) -> u8
+        ensures { result ≡ kind_number self }
+    {
+        self as u8
+    }
+}
 
-pub const SERVICE_LINE: u8 = 4;
+impl TryFrom<u8> for Kind {
+    type Error = NoKind;
 
-pub const QOS_LINE: u8 = 5;
+    ghost try_from_gives = { IsKindOf };
+
+    fn try_from(number: u8) -> Result<Kind, NoKind> {
+        Ok(match number {
+            1 => Kind::Initial,
+            2 => Kind::Update,
+            3 => Kind::Termination,
+            4 => Kind::ServiceLine,
+            5 => Kind::QosLine,
+            _ => return Err(NoKind),
+        })
+    }
+}
 
 // The most octets that a container, a total or a threshold may have.
 pub const MOST_OCTETS: u64 = 999_999_999_999;
@@ -24,7 +55,7 @@ pub struct Uplink(pub u64);
 #[derive(Clone, Copy, PartialEq, Eq, Debug)]
 pub struct Downlink(pub u64);
 
-// An entry, its fields in the order of the layout.
+// An entry, its fields in the order of the layout. Kind and cause are numbers there: what comes from outside may hold any.
 #[derive(Clone, Copy, PartialEq, Eq, Debug)]
 pub struct Entry {
     pub kind: u8,

@@ -6,7 +6,7 @@ ghost use Rattle.std.proofs.Common.{rules};
 use crate::entry::*;
 
 // The identity of a line in containers: its entry kind and its code.
-#[derive(Clone, Copy, PartialEq, Eq)]
+#[derive(Clone, Copy, PartialEq, Eq, Debug)]
 pub struct LineId {
     pub kind: u8,
     pub code: u64,
@@ -33,7 +33,7 @@ pub const LARGEST_GROUP: u32 = 65_535;
 const GROUP_SPAN: u64 = 131_072;
 
 // The key of flow based charging: a rating group, and a service id that may be absent.
-#[derive(Clone, Copy)]
+#[derive(Clone, Copy, PartialEq, Eq, Debug)]
 pub struct ServiceKey {
     pub rating_group: u32,
     pub service_id: Option<u32>,
@@ -56,7 +56,7 @@ impl LineKey for ServiceKey {
             return None;
         }
         Some(LineId {
-            kind: SERVICE_LINE,
+            kind: Kind::ServiceLine.number(),
             code: self.rating_group as u64 * GROUP_SPAN + id_part,
         })
     }
@@ -66,7 +66,7 @@ impl LineKey for ServiceKey {
 pub const LARGEST_QFI: u8 = 63;
 
 // The key of QoS flow based charging: a QoS flow identifier.
-#[derive(Clone, Copy)]
+#[derive(Clone, Copy, PartialEq, Eq, Debug)]
 pub struct Qfi(pub u8);
 
 impl LineKey for Qfi {
@@ -81,7 +81,7 @@ impl LineKey for Qfi {
             return None;
         }
         Some(LineId {
-            kind: QOS_LINE,
+            kind: Kind::QosLine.number(),
             code: self.0 as u64,
         })
     }

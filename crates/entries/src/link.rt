@@ -2,7 +2,6 @@
 ghost use Rattle.std.specs.Prelude.{◌≡◌, true, if◌then◌else◌};
 
 use crate::entry::*;
-use crate::request::*;
 use crate::taker::*;
 
 #[derive(Drop)]
@@ -49,10 +48,7 @@ impl<F: Taker> Taker for Link<F> {
         if self.up {
             return self.below.take(head, containers);
         }
-        if !request_formed(head, containers) {
-            return Err(Declined::Malformed);
-        }
-        Err(Declined::IntakeTooSmall)
+        admit(head, containers, 0)
     }
 }
 

@@ -1,6 +1,11 @@
 // Makings: a charging function over lent memory is made, or refused.
-ghost use Rattle.std.specs.Prelude.{◌≡◌};
-ghost use Rattle.entries.specs.Makings.{unmade_number, unmade_place};
+ghost use Rattle.std.specs.Prelude.{◌≡◌, []};
+ghost use Rattle.entries.specs.Makings.{unmade_number, unmade_place, Lent};
+
+use crate::entry::*;
+use crate::profile::*;
+use crate::refusal::Numbered;
+use crate::taker::*;
 
 // Why the making of a book or a journal is refused.
 #[derive(Clone, Copy, PartialEq, Eq, Debug)]
@@ -11,17 +16,18 @@ pub enum Unmade {
     WrongLength(usize),
 }
 
-impl Unmade {
-    // The number that a caller meets: 4 or 11.
-    pub fn number(self) -> u8
-        ensures { result ≡ unmade_number self }
-    {
+impl Numbered for Unmade {
+    ghost meant = { unmade_number };
+
+    fn number(self) -> u8 {
         match self {
             Unmade::TooManyOverrides => 4,
             Unmade::WrongLength(_) => 11,
         }
     }
+}
 
+impl Unmade {
     // The place of number 11: the length of the lent memory.
     pub fn place(self) -> Option<usize>
         ensures { result ≡ unmade_place self }
@@ -33,10 +39,53 @@ impl Unmade {
     }
 }
 
-// What a making answers: what was made and, where the making is refused, why. What is made by a refused making has an
-// intake of 0 for good.
+// A making that is refused: why, and what it leaves.
 #[derive(Drop)]
-pub struct Made<T> {
-    pub value: T,
-    pub refused: Option<Unmade>,
+pub struct Refused<W, T> {
+    pub why: W,
+    pub left: T,
+}
+
+// What is left of a charging function takes nothing for good, and has no profile.
+impl<T> Taker for Refused<Unmade, T> {
+    ghost book = { λ _. [] };
+
+    ghost room = { λ _. 0 };
+
+    ghost took = { λ _ _ _ _. ⊥ };
+
+    fn intake(&self) -> usize {
+        0
+    }
+
+    fn take(&mut self, head: &Entry, containers: &[Entry]) -> Result<(), Declined> {
+        admit(head, containers, 0)
+    }
+}
+
+impl<T> ChargingFunction for Refused<Unmade, T> {
+    ghost profile = { λ _. [] };
+
+    fn override_at(&self, _i: usize) -> Option<Override> {
+        None
+    }
+}
+
+// The profile of a charging function over so much lent memory, of which there have to be so many places, or why it is not
+// made.
+pub fn lend<'a>(
+    overrides: &'a [Override],
+    length: usize,
+    fewest: usize,
+    most: usize,
+) -> Result<Profile<'a>, Unmade>
+    ensures { Lent overrides.now length fewest most result }
+{
+    if overrides.len() > MOST_OVERRIDES {
+        return Err(Unmade::TooManyOverrides);
+    }
+    if length < fewest || length > most {
+        return Err(Unmade::WrongLength(length));
+    }
+    Ok(Profile::new(overrides))
 }

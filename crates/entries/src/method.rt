@@ -8,7 +8,7 @@ use crate::trigger::*;
 
 // What the trigger table says of a trigger: whether it begins as immediate, else deferred, and whether the charging
 // function may recategorise it, and switch it.
-#[derive(Clone, Copy)]
+#[derive(Clone, Copy, PartialEq, Eq, Debug)]
 pub struct Rule {
     pub immediate: bool,
     pub recategorised: bool,
@@ -62,20 +62,22 @@ const IMMEDIATE_FIXED: Rule = Rule {
 fn table_rule(trigger: u8, area: Option<Rule>, moved: Rule, ended: Rule) -> Option<Rule>
     ensures { result ≡ table area moved ended trigger }
 {
-    match trigger {
-        PRESENCE_AREA => area,
-        QOS..=PS_DATA_OFF | LINE_TIME | LINE_VOLUME => Some(DEFERRED),
-        TARIFF_TIME => Some(DEFERRED_FIXED),
-        TIME_ZONE..=SESSION_AMBR => Some(moved),
-        SESSION_TIME..=CONDITION_CHANGES => Some(IMMEDIATE_SWITCHED),
-        LINE_END => Some(ended),
-        INTERVENTION..=ABORT => Some(IMMEDIATE_FIXED),
-        _ => None,
+    match Trigger::try_from(trigger).ok()? {
+        Trigger::PresenceArea => area,
+        Trigger::Qos | Trigger::GfbrStatus | Trigger::UserLocation => Some(DEFERRED),
+        Trigger::ServingNode | Trigger::PsDataOff => Some(DEFERRED),
+        Trigger::LineTime | Trigger::LineVolume => Some(DEFERRED),
+        Trigger::TariffTime => Some(DEFERRED_FIXED),
+        Trigger::TimeZone | Trigger::Plmn | Trigger::RatType | Trigger::SessionAmbr => Some(moved),
+        Trigger::SessionTime | Trigger::SessionVolume => Some(IMMEDIATE_SWITCHED),
+        Trigger::ConditionChanges => Some(IMMEDIATE_SWITCHED),
+        Trigger::LineEnd => Some(ended),
+        Trigger::Intervention | Trigger::SessionEnd | Trigger::Abort => Some(IMMEDIATE_FIXED),
     }
 }
 
 // Flow based charging, converged.
-#[derive(Clone, Copy)]
+#[derive(Clone, Copy, PartialEq, Eq, Debug)]
 pub struct Converged;
 
 impl Method for Converged {
@@ -91,7 +93,7 @@ impl Method for Converged {
 }
 
 // Flow based charging, offline only.
-#[derive(Clone, Copy)]
+#[derive(Clone, Copy, PartialEq, Eq, Debug)]
 pub struct OfflineOnly;
 
 impl Method for OfflineOnly {
@@ -107,7 +109,7 @@ impl Method for OfflineOnly {
 }
 
 // QoS flow based charging.
-#[derive(Clone, Copy)]
+#[derive(Clone, Copy, PartialEq, Eq, Debug)]
 pub struct QosFlow;
 
 impl Method for QosFlow {

@@ -13,9 +13,10 @@ const LARGEST_ID: u64 = 4_294_967_295;
 pub fn container_formed(e: &Entry) -> bool
     ensures { result ≡ container_formed e.now }
 {
-    e.kind >= SERVICE_LINE
-        && e.kind <= QOS_LINE
-        && e.number > 0
+    matches!(
+        Kind::try_from(e.kind),
+        Ok(Kind::ServiceLine | Kind::QosLine)
+    ) && e.number > 0
         && e.from <= e.to
         && e.uplink.0 <= MOST_OCTETS
         && e.downlink.0 <= MOST_OCTETS
@@ -24,21 +25,17 @@ pub fn container_formed(e: &Entry) -> bool
 pub fn containers_formed(containers: &[Entry]) -> bool
     ensures { result ≡ containers_formed containers.now }
 {
-    for e in containers {
-        if !container_formed(e) {
-            return false;
-        }
-    }
-    true
+    containers.iter().all(container_formed)
 }
 
 // The form of a head of `n` containers.
 pub fn head_formed(h: &Entry, n: usize) -> bool
     ensures { result ≡ head_formed h.now n }
 {
-    h.kind >= INITIAL
-        && h.kind <= TERMINATION
-        && h.number as usize == n
+    matches!(
+        Kind::try_from(h.kind),
+        Ok(Kind::Initial | Kind::Update | Kind::Termination)
+    ) && h.number as usize == n
         && h.from == h.to
         && h.code <= LARGEST_ID
         && h.uplink.0 == 0

@@ -6,6 +6,7 @@ ghost use Rattle.entries.specs.Sums.{most_summed, line_octets, unsummed_number, 
 
 use crate::entry::*;
 use crate::key::*;
+use crate::refusal::Numbered;
 use crate::sequence::*;
 
 // The most entries that are summed.
@@ -29,15 +30,12 @@ pub enum Unsummed {
     NotRequests,
 }
 
-impl Unsummed {
-    // The number that a caller meets: 4.
-    pub fn number(self) -> u8
-        ensures { result ≡ unsummed_number self }
-    {
+impl Numbered for Unsummed {
+    ghost meant = { unsummed_number };
+
+    fn number(self) -> u8 {
         match self {
-            Unsummed::TooManyEntries => 4,
-            Unsummed::KeyOutOfRange => 4,
-            Unsummed::NotRequests => 4,
+            Unsummed::TooManyEntries | Unsummed::KeyOutOfRange | Unsummed::NotRequests => 4,
         }
     }
 }
@@ -46,7 +44,11 @@ impl Unsummed {
 fn counts_for(e: &Entry, line: LineId, period: u16) -> bool
     ensures { result ≡ counts_for line period e.now }
 {
-    e.kind == line.kind && e.code == line.code && e.period == period
+    let named = LineId {
+        kind: e.kind,
+        code: e.code,
+    };
+    named == line && e.period == period
 }
 
 // The octets of a line and a tariff period.
@@ -76,9 +78,7 @@ pub fn sum<K: LineKey>(book: &[Entry], key: &K, period: u16) -> Result<Octets, U
     if book.len() > MOST_SUMMED {
         return Err(Unsummed::TooManyEntries);
     }
-    let Some(line) = key.line() else {
-        return Err(Unsummed::KeyOutOfRange);
-    };
+    let line = key.line().ok_or(Unsummed::KeyOutOfRange)?;
     if count_requests(book).is_err() {
         return Err(Unsummed::NotRequests);
     }

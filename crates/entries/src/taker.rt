@@ -6,26 +6,37 @@ ghost use Rattle.entries.specs.declared.taker.Override.{Override as Change};
 ghost use Rattle.entries.specs.Requests.{take_answer, declined_number};
 
 use crate::entry::*;
+use crate::refusal::Numbered;
+use crate::request::*;
 
 // Why a request is not taken.
 #[derive(Clone, Copy, PartialEq, Eq, Debug)]
 pub enum Declined {
     // the request is not well formed
-    Malformed,
+    Malformed = 4,
     // head and containers are more entries than the intake
-    IntakeTooSmall,
+    IntakeTooSmall = 10,
 }
 
-impl Declined {
-    // The number that a caller meets: 4 or 10.
-    pub fn number(self) -> u8
-        ensures { result ≡ declined_number self }
-    {
-        match self {
-            Declined::Malformed => 4,
-            Declined::IntakeTooSmall => 10,
-        }
+impl Numbered for Declined {
+    ghost meant = { declined_number };
+
+    fn number(self) -> u8 {
+        self as u8
     }
+}
+
+// What a taker of that intake answers to a request.
+pub fn admit(head: &Entry, containers: &[Entry], intake: usize) -> Result<(), Declined>
+    ensures { result ≡ take_answer head.now containers.now intake }
+{
+    if !request_formed(head, containers) {
+        return Err(Declined::Malformed);
+    }
+    if containers.len() >= intake {
+        return Err(Declined::IntakeTooSmall);
+    }
+    Ok(())
 }
 
 // A taker of requests. It means a book, the list of entries that it took, and an intake, the number of entries that it

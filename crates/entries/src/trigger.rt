@@ -1,44 +1,97 @@
-// The numbers of the triggers.
-
-pub const QOS: u8 = 1;
-
-pub const GFBR_STATUS: u8 = 2;
-
-pub const USER_LOCATION: u8 = 3;
-
-pub const SERVING_NODE: u8 = 4;
-
-pub const PRESENCE_AREA: u8 = 5;
-
-pub const PS_DATA_OFF: u8 = 6;
-
-pub const TARIFF_TIME: u8 = 7;
-
-pub const TIME_ZONE: u8 = 8;
-
-pub const PLMN: u8 = 9;
-
-pub const RAT_TYPE: u8 = 10;
-
-pub const SESSION_AMBR: u8 = 11;
-
-pub const SESSION_TIME: u8 = 12;
-
-pub const SESSION_VOLUME: u8 = 13;
-
-pub const CONDITION_CHANGES: u8 = 14;
-
-pub const LINE_TIME: u8 = 15;
-
-pub const LINE_VOLUME: u8 = 16;
-
-pub const LINE_END: u8 = 17;
-
-pub const INTERVENTION: u8 = 18;
-
-pub const SESSION_END: u8 = 19;
-
-pub const ABORT: u8 = 20;
+// The triggers, and their numbers.
+ghost use Rattle.std.specs.Prelude.{◌≡◌, ◌≤◌};
+ghost use Rattle.entries.specs.Triggers.{is_condition, is_limit};
+ghost use Rattle.entries.specs.Numbers.{trigger_number, IsTriggerOf};
 
 // One more than the last number: a table by trigger number has so many places, and uses all but the first.
 pub const TRIGGERS: usize = 21;
+
+#[derive(Clone, Copy, PartialEq, Eq, Debug)]
+pub enum Trigger {
+    Qos = 1,
+    GfbrStatus,
+    UserLocation,
+    ServingNode,
+    PresenceArea,
+    PsDataOff,
+    TariffTime,
+    TimeZone,
+    Plmn,
+    RatType,
+    SessionAmbr,
+    SessionTime,
+    SessionVolume,
+    ConditionChanges,
+    LineTime,
+    LineVolume,
+    LineEnd,
+    Intervention,
+    SessionEnd,
+    Abort,
+}
+
+// A number that no trigger has.
+#[derive(Clone, Copy, PartialEq, Eq, Debug)]
+pub struct NoTrigger;
+
+impl Trigger {
+    pub fn number(self) -> u8
+        ensures number { result ≡ trigger_number self }
+        ensures within { result ≤ 20 }
+    {
+        self as u8
+    }
+
+    // Whether it is a change of conditions.
+    pub fn is_condition(self) -> bool
+        ensures { result ≡ is_condition (trigger_number self) }
+    {
+        self.number() <= Trigger::SessionAmbr.number()
+    }
+
+    // Whether it is a limit, which has a threshold.
+    pub fn is_limit(self) -> bool
+        ensures { result ≡ is_limit (trigger_number self) }
+    {
+        matches!(
+            self,
+            Trigger::SessionTime
+                | Trigger::SessionVolume
+                | Trigger::ConditionChanges
+                | Trigger::LineTime
+                | Trigger::LineVolume
+        )
+    }
+}
+
+impl TryFrom<u8> for Trigger {
+    type Error = NoTrigger;
+
+    ghost try_from_gives = { IsTriggerOf };
+
+    fn try_from(number: u8) -> Result<Trigger, NoTrigger> {
+        Ok(match number {
+            1 => Trigger::Qos,
+            2 => Trigger::GfbrStatus,
+            3 => Trigger::UserLocation,
+            4 => Trigger::ServingNode,
+            5 => Trigger::PresenceArea,
+            6 => Trigger::PsDataOff,
+            7 => Trigger::TariffTime,
+            8 => Trigger::TimeZone,
+            9 => Trigger::Plmn,
+            10 => Trigger::RatType,
+            11 => Trigger::SessionAmbr,
+            12 => Trigger::SessionTime,
+            13 => Trigger::SessionVolume,
+            14 => Trigger::ConditionChanges,
+            15 => Trigger::LineTime,
+            16 => Trigger::LineVolume,
+            17 => Trigger::LineEnd,
+            18 => Trigger::Intervention,
+            19 => Trigger::SessionEnd,
+            20 => Trigger::Abort,
+            _ => return Err(NoTrigger),
+        })
+    }
+}

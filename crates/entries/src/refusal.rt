@@ -1,0 +1,10 @@
+// Refusals, and the numbers by which a caller meets them.
+ghost use Rattle.std.specs.Prelude.{◌≡◌, ℕ};
+
+// An answer that a caller meets as a number.
+pub trait Numbered: Copy {
+    ghost meant: { Self → ℕ };
+
+    fn number(self) -> u8
+        ensures { result ≡ meant self };
+}
