@@ -5,17 +5,17 @@ use Rattle.std.specs.List.{slice_get}
 use Rattle.entries.specs.declared.taker.Override.{Override}
 use Rattle.entries.specs.declared.method.Rule.{Rule}
 use Rattle.entries.specs.Columns.{Column}
-use Rattle.session.specs.declared.state.Trigger.{Trigger}
+use Rattle.session.specs.declared.state.Setting.{Setting}
 use Rattle.session.specs.Profiles.{permitted, applied_one, applied, applied_count}
 
 -- a loop over a profile that has seen i overrides and applied n of them
-pub record Turn (column : Column) (os : List Override) (ts₀ ts : List Trigger) (i n : ℕ) : Type 0 where
+pub record Turn (column : Column) (os : List Override) (ts₀ ts : List Setting) (i n : ℕ) : Type 0 where
   pub state : applied column (drop i os) ts ≡ applied column os ts₀
   pub count : n + applied_count column (drop i os) ≡ applied_count column os
   pub fewer : n ≤ i
   pub within : i ≤ length os
 
-pub turn_none : (column : Column) (os : List Override) (ts : List Trigger) → Turn column os ts ts 0 0
+pub turn_none : (column : Column) (os : List Override) (ts : List Setting) → Turn column os ts ts 0 0
 turn_none column os ts = record { state = refl; count = omega arith; fewer = omega arith; within = omega arith }
 
 some_at : (os : List Override) (i : ℕ) (o : Override) → slice_get os i ≡ Some o → drop i os ≡ o ∷ drop (suc i) os
@@ -38,7 +38,7 @@ seen_more (x ∷ os) zero o e = omega arith
 seen_more (x ∷ os) (suc i) o e = let r = seen_more os i o e in omega (arith, r)
 
 pub turn_some :
-    {column : Column} {os : List Override} {ts₀ ts us : List Trigger} {i n k : ℕ} (o : Override) (q : Option Rule) (r : Bool)
+    {column : Column} {os : List Override} {ts₀ ts us : List Setting} {i n k : ℕ} (o : Override) (q : Option Rule) (r : Bool)
     → Some o ≡ slice_get os i → q ≡ column o.trigger → r ≡ permitted q o → us ≡ applied_one q o ts → k ≡ n + cond r 1 0
     → Turn column os ts₀ ts i n → Turn column os ts₀ us (i + 1) k
 turn_some {column} {os} {ts₀} {ts} {us} {i} {n} {k} o q r at qe e' f' g T =
@@ -55,7 +55,7 @@ turn_some {column} {os} {ts₀} {ts} {us} {i} {n} {k} o q r at qe e' f' g T =
     }
 
 pub turn_all :
-    {column : Column} {os : List Override} {ts₀ ts : List Trigger} {i n : ℕ} → None ≡ slice_get os i → Turn column os ts₀ ts i n
+    {column : Column} {os : List Override} {ts₀ ts : List Setting} {i n : ℕ} → None ≡ slice_get os i → Turn column os ts₀ ts i n
     → (ts ≡ applied column os ts₀) × (n ≡ applied_count column os) × (i ≡ length os)
 turn_all {column} {os} {ts₀} {ts} {i} {n} at T =
     let p = none_at os i (sym at) in

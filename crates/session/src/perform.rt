@@ -1,5 +1,7 @@
 // Performing what was decided, and handing over what it makes due.
 ghost use Rattle.std.specs.Prelude.{◌≡◌, ◌+◌, ◌≤◌, true, false, ◌∷◌, ◌++◌, length, vec_len, vec_capacity};
+ghost use Rattle.entries.specs.Entries.{termination};
+ghost use Rattle.entries.specs.Numbers.{kind_number};
 ghost use Rattle.entries.specs.Requests.{head_formed};
 ghost use Rattle.session.specs.Closing.{closes, closing_count};
 ghost use Rattle.session.specs.Fit.{Fit, EditWithin, StopWithin};
@@ -93,12 +95,12 @@ impl Ledger {
     }
 
     // A head of the session, over so many containers.
-    pub(crate) fn head(&self, kind: u8, cause: u8, number: u32, t: u32) -> Entry
-        ensures value { result ≡ head kind cause self.now.marks.period number t self.now.id }
-        ensures formed { 1 ≤ kind → kind ≤ 3 → head_formed result number ≡ true }
+    pub(crate) fn head(&self, kind: Kind, cause: u8, number: u32, t: u32) -> Entry
+        ensures value { result ≡ head (kind_number kind) cause self.now.marks.period number t self.now.id }
+        ensures formed { kind_number kind ≤ termination → head_formed result number ≡ true }
     {
         Entry {
-            kind,
+            kind: kind.number(),
             cause,
             period: self.marks.period,
             number,
@@ -115,7 +117,7 @@ impl Ledger {
         ensures { Comes (offer (view self.old) cause t (T.Taker.room taker.old)) result (view self.new) T.Taker.book T.Taker.took taker.old taker.new }
     {
         let n = self.waiting.len();
-        let head = self.head(UPDATE, cause, n as u32, t);
+        let head = self.head(Kind::Update, cause, n as u32, t);
         if taker.take(&head, self.waiting.as_slice()).is_ok() {
             self.waiting.clear();
             self.owed = false;
@@ -147,11 +149,11 @@ impl Ledger {
     pub(crate) fn terminate<T: Taker>(&mut self, cause: u8, t: u32, taker: &mut T)
         requires { length self.old.waiting.items + 1 ≤ T.Taker.room taker.old }
         ensures after { view self.new ≡ offered (view self.old) true }
-        ensures gained { T.Taker.book taker.new ≡ T.Taker.book taker.old ++ (head_of (view self.old) 3 cause t ∷ self.old.waiting.items) }
-        ensures memory { T.Taker.took taker.old (head_of (view self.old) 3 cause t) self.old.waiting.items taker.new }
+        ensures gained { T.Taker.book taker.new ≡ T.Taker.book taker.old ++ (head_of (view self.old) termination cause t ∷ self.old.waiting.items) }
+        ensures memory { T.Taker.took taker.old (head_of (view self.old) termination cause t) self.old.waiting.items taker.new }
     {
         let n = self.waiting.len();
-        let head = self.head(TERMINATION, cause, n as u32, t);
+        let head = self.head(Kind::Termination, cause, n as u32, t);
         let _ = taker.take(&head, self.waiting.as_slice());
         self.waiting.clear();
         self.owed = false;

@@ -26,13 +26,6 @@ pub struct Session<M: Method> {
     pub(crate) ledger: Ledger,
 }
 
-// A session as made and, where its making is refused, why; it is then shelved.
-#[derive(Drop)]
-pub struct Making<M: Method> {
-    pub session: Session<M>,
-    pub refused: Option<NotMade>,
-}
-
 // A call with the line that its key names, or none where the key is out of range.
 fn see<K: LineKey>(event: Event<K>) -> Event<Option<LineId>>
     ensures seen { result ≡ seen_event K.LineKey.coding event }

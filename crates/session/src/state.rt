@@ -24,7 +24,7 @@ pub struct Line {
 
 // A trigger as set: whether the method has it, whether it is enabled, its category and its threshold.
 #[derive(Clone, Copy)]
-pub struct Trigger {
+pub struct Setting {
     pub known: bool,
     pub enabled: bool,
     pub immediate: bool,
