@@ -27,11 +27,11 @@ unfolding written
 drop_written_at t at es h = drop_at (take at t) (es ++ drop (at + length es) t) at (length-take-le at t h)
 
 -- a head, its containers and the header, written one after the other
-pub request_grown : (b : List ℕ) (n q : ℕ) (h : Entry) (cs : List Entry) (free : ℕ) (b₁ b₂ b₃ : List ℕ) → entry_offset n + entry_size * (length cs + 1) ≤ length b → free ≡ entry_offset n
-    → b₁ ≡ written b free (entry_bytes h) → b₂ ≡ written b₁ (free + entry_size) (all_bytes cs) → b₃ ≡ written b₂ 0 (header_bytes (n + (length cs + 1)) (q + 1)) → b₃ ≡ grown b n q (h ∷ cs)
-request_grown b n q h cs free b₁ b₂ b₃ room a e f g =
+pub request_grown : (b : List ℕ) (n q : ℕ) (h : Entry) (cs : List Entry) (free : ℕ) (x b₁ b₂ b₃ : List ℕ) → entry_offset n + entry_size * (length cs + 1) ≤ length b → free ≡ entry_offset n
+    → x ≡ entry_bytes h → b₁ ≡ written b free x → b₂ ≡ written b₁ (free + entry_size) (all_bytes cs) → b₃ ≡ written b₂ 0 (header_bytes (n + (length cs + 1)) (q + 1)) → b₃ ≡ grown b n q (h ∷ cs)
+request_grown b n q h cs free x b₁ b₂ b₃ room a d e f g =
     let two : b₂ ≡ written b (entry_offset n) (all_bytes (h ∷ cs)) =
-    rw (f, e, a) (written_next b (entry_offset n) (entry_bytes h) (all_bytes cs) (entry_offset n + entry_size) (omega arith) (omega (arith, length_entry h))) in
+    rw (f, e, a, d) (written_next b (entry_offset n) (entry_bytes h) (all_bytes cs) (entry_offset n + entry_size) (omega arith) (omega (arith, length_entry h))) in
     let i : n + (length cs + 1) ≡ n + suc (length cs) = omega arith in
     g ∙ (ap (λ x. written x 0 (header_bytes (n + (length cs + 1)) (q + 1))) two ∙ ap (λ m. written (written b (entry_offset n) (all_bytes (h ∷ cs))) 0 (header_bytes m (q + 1))) i)
 

@@ -56,8 +56,6 @@ impl PastEnd {
     pub fn number(self) -> u8
         ensures { result ≡ past_end_number }
     {
-        match self {
-            PastEnd => 4,
-        }
+        4
     }
 }

@@ -70,7 +70,7 @@ impl<'a> Journal<'a> {
         ensures back { Faithful self.now (answer result) }
     {
         if !self.live {
-            return Ok(Reader { body: &[] });
+            return Ok(Reader { entries: &[] });
         }
         Reader::new(self.bytes)
     }

@@ -1,27 +1,26 @@
 // A reader of a journal's bytes.
-ghost use Rattle.std.specs.Prelude.{◌≡◌, ◌≤◌, length, drop};
+ghost use Rattle.std.specs.Prelude.{◌≡◌, ◌<◌, ◌^◌, length, map};
 ghost use Rattle.entries.specs.Sequences.{requests_in};
-ghost use Rattle.journal.specs.Layout.{header_size, entry_offset, entries_in};
-ghost use Rattle.journal.specs.Reading.{read, Meant, Complete};
+ghost use Rattle.journal.specs.Layout.{entry_of};
+ghost use Rattle.journal.specs.Reading.{placed, read, Meant, Complete};
 ghost use Rattle.journal.specs.Readers.{shown, answer, entry_at};
 
-use crate::codec::*;
 use crate::fault::*;
 use crate::layout::*;
 use entries::entry::*;
 use entries::sequence::*;
 
-// How many requests the first `n` entries are, or the index of the first entry at which they stop being requests.
-fn check_entries(bytes: &[u8], n: u32) -> Result<u32, u32>
-    requires { entry_offset n ≤ length bytes.now }
-    ensures { result ≡ requests_in (entries_in n (drop header_size bytes.now)) }
+// How many requests the entries are, or the first entry at which they stop being requests.
+fn check_entries(entries: &[[u8; ENTRY_SIZE]]) -> Result<usize, Fault>
+    requires { length entries.now < 2 ^ 33 }
+    ensures { result ≡ placed (requests_in (map entry_of entries.now)) }
 {
     let mut due = 0;
     let mut begun = 0;
-    for i in 0..n {
-        let e = read_entry(&bytes[entry_offset(i as usize)..]);
-        if !goes_on(due, &e, (n - i - 1) as usize) {
-            return Err(i);
+    for (i, bytes) in entries.iter().enumerate() {
+        let e = read_entry(bytes);
+        if !goes_on(due, &e, entries.len() - i - 1) {
+            return Err(Fault::Form(entry_offset(i)));
         }
         if due == 0 {
             begun += 1;
@@ -31,10 +30,10 @@ fn check_entries(bytes: &[u8], n: u32) -> Result<u32, u32>
     Ok(begun)
 }
 
-// The bytes of the entries alone.
+// The bytes of each entry.
 #[derive(Drop)]
 pub struct Reader<'a> {
-    pub(crate) body: &'a [u8],
+    pub(crate) entries: &'a [[u8; ENTRY_SIZE]],
 }
 
 // A reader of the entries alone, where header and entries are those of a journal.
@@ -45,24 +44,20 @@ fn open_bytes(bytes: &[u8]) -> Result<Reader<'_>, Fault>
     if length < HEADER_SIZE || length > MOST_BYTES {
         return Err(Fault::Length(length));
     }
-    let entries = get_u32(bytes, ENTRIES_AT);
-    let free = get_u32(bytes, FREE_AT) as usize;
-    if free != entry_offset(entries as usize) || free > length {
+    let header = read_header(bytes);
+    let free = header.free as usize;
+    if free != entry_offset(header.entries as usize) || free > length {
         return Err(Fault::FreeOffset);
     }
-    if get_u32(bytes, SPARE_AT) != SPARE {
+    if header.spare != SPARE {
         return Err(Fault::Spare);
     }
-    let requests = match check_entries(bytes, entries) {
-        Ok(requests) => requests,
-        Err(i) => return Err(Fault::Form(entry_offset(i as usize))),
-    };
-    if requests != get_u32(bytes, REQUESTS_AT) {
+    let (entries, _) = bytes[HEADER_SIZE..free].as_chunks();
+    let requests = check_entries(entries)?;
+    if requests != header.requests as usize {
         return Err(Fault::RequestCount);
     }
-    Ok(Reader {
-        body: &bytes[HEADER_SIZE..free],
-    })
+    Ok(Reader { entries })
 }
 
 impl<'a> Reader<'a> {
@@ -79,17 +74,13 @@ impl<'a> Reader<'a> {
     pub fn count(&self) -> usize
         ensures { result ≡ length (shown self.now) }
     {
-        self.body.len() / ENTRY_SIZE
+        self.entries.len()
     }
 
     // The entry of that index, refused past the last one.
     pub fn entry(&self, i: usize) -> Result<Entry, PastEnd>
         ensures { result ≡ entry_at (shown self.now) i }
     {
-        let count = self.body.len() / ENTRY_SIZE;
-        if i >= count {
-            return Err(PastEnd);
-        }
-        Ok(read_entry(&self.body[ENTRY_SIZE * i..]))
+        self.entries.get(i).map(read_entry).ok_or(PastEnd)
     }
 }
