@@ -1,9 +1,10 @@
 // A reader of a journal's bytes.
 ghost use Rattle.std.specs.Prelude.{◌≡◌, ◌<◌, ◌^◌, length, map};
+ghost use Rattle.std.specs.Iterator.{YieldsFirst, item_count};
 ghost use Rattle.entries.specs.Sequences.{requests_in};
 ghost use Rattle.journal.specs.Layout.{entry_of};
 ghost use Rattle.journal.specs.Reading.{placed, read, Meant, Complete};
-ghost use Rattle.journal.specs.Readers.{shown, answer, entry_at};
+ghost use Rattle.journal.specs.Readers.{shown, left_of, answer, entry_at};
 
 use crate::fault::*;
 use crate::layout::*;
@@ -15,19 +16,13 @@ fn check_entries(entries: &[[u8; ENTRY_SIZE]]) -> Result<usize, Fault>
     requires { length entries.now < 2 ^ 33 }
     ensures { result ≡ placed (requests_in (map entry_of entries.now)) }
 {
-    let mut due = 0;
-    let mut begun = 0;
+    let mut sequence = Sequence::of(entries.len());
     for (i, bytes) in entries.iter().enumerate() {
-        let e = read_entry(bytes);
-        if !goes_on(due, &e, entries.len() - i - 1) {
+        if !sequence.accept(&read_entry(bytes)) {
             return Err(Fault::Form(entry_offset(i)));
         }
-        if due == 0 {
-            begun += 1;
-        }
-        due = due_after(due, &e);
     }
-    Ok(begun)
+    Ok(sequence.requests)
 }
 
 // The bytes of each entry.
@@ -70,6 +65,13 @@ impl<'a> Reader<'a> {
         open_bytes(bytes)
     }
 
+    // The entries, one after the other.
+    pub fn entries(&self) -> Entries<'a>
+        ensures { left_of result ≡ shown self.now }
+    {
+        Entries { rest: self.entries }
+    }
+
     // How many entries there are.
     pub fn count(&self) -> usize
         ensures { result ≡ length (shown self.now) }
@@ -82,5 +84,25 @@ impl<'a> Reader<'a> {
         ensures { result ≡ entry_at (shown self.now) i }
     {
         self.entries.get(i).map(read_entry).ok_or(PastEnd)
+    }
+}
+
+// The entries that a reader shows, from one on.
+#[derive(Drop)]
+pub struct Entries<'a> {
+    rest: &'a [[u8; ENTRY_SIZE]],
+}
+
+impl<'a> Iterator for Entries<'a> {
+    type Item = Entry;
+
+    ghost next_gives = { YieldsFirst left_of };
+
+    ghost remaining = { item_count left_of };
+
+    fn next(&mut self) -> Option<Entry> {
+        let (first, rest) = self.rest.split_first()?;
+        self.rest = rest;
+        Some(read_entry(first))
     }
 }
