@@ -1,5 +1,5 @@
 -- Numbers in a row as bytes: written, read back, and written again.
-use Rattle.std.proofs.Common.{◌≡◌, ℕ, zero, suc, ◌+◌, ◌*◌, ◌/◌, ◌%◌, ◌^◌, ◌<◌, ◌≤◌, List, [], ◌∷◌, ◌++◌, length, take, drop, sym, refl, ap, ◌∙◌, append_assoc, mod-eq_of_lt, mul_assoc, add_comm, div-one, arith, length-take, slice_index, drop-cons, add-zero, ◌-◌}
+use Rattle.std.proofs.Common.{◌≡◌, ℕ, zero, suc, ◌+◌, ◌*◌, ◌/◌, ◌%◌, ◌^◌, ◌<◌, ◌≤◌, List, [], ◌∷◌, ◌++◌, length, take, drop, sym, refl, ap, ◌∙◌, append_assoc, mod-eq_of_lt, mul_assoc, add_comm, div-one, arith, length-take, slice_index, drop-cons, ◌-◌}
 use native.Mathlib.Nat.{mod-one, one-le-pow, pow-succ', add-mul-div_right, add-mul-mod_self_right}
 use lib.Arith.{mod-mul, digits_lt, digits_div}
 use Rattle.std.specs.List.{AllByRecursion}

@@ -1,5 +1,5 @@
 -- What a journal holds after its making and its takings is read back.
-use Rattle.std.proofs.Common.{◌≡◌, ℕ, suc, ◌+◌, ◌*◌, ◌≤◌, true, cond, leb, List, [], ◌∷◌, ◌++◌, length, take, None, Ok, Result, sym, refl, ap, ◌∙◌, subst, arith, length-append}
+use Rattle.std.proofs.Common.{◌≡◌, ℕ, suc, ◌+◌, ◌*◌, ◌≤◌, true, List, [], ◌∷◌, ◌++◌, length, take, None, Ok, Result, sym, refl, ap, ◌∙◌, subst, arith, length-append}
 use Rattle.std.specs.List.{AllByRecursion}
 use Rattle.std.proofs.lemmas.List.{append-nil}
 use Rattle.std.proofs.lemmas.Bool.Decides.{nat_tests}
@@ -14,7 +14,6 @@ use Rattle.journal.specs.declared.fault.Fault.{Fault}
 use Rattle.journal.specs.declared.journal.Journal.{Journal}
 use Rattle.journal.specs.Layout.{entry_size, EntryFits, header_size, header_bytes, most_bytes, entry_offset}
 use Rattle.journal.specs.Layout.{journal_bytes, room_for, grown}
-use Rattle.journal.specs.Reading.{read}
 use Rattle.journal.specs.Journals.{bytes_of, entry_count, Grown, unmade_journal, JournalMade, Used, made, took, reading, ReadsBack}
 use Rattle.journal.proofs.LayoutLaws.{length_header}
 use Rattle.journal.proofs.SoundLaws.{Sound, read_sound}
@@ -56,9 +55,8 @@ made_sized overrides bytes e = (grind (arith, nat_tests), grind (arith, nat_test
 pub admitted : (h : Entry) (cs : List Entry) (intake : ℕ) (u : Unit {0}) → Ok u ≡ take_answer h cs intake → (well_formed h cs ≡ true) × (length cs + 1 ≤ intake)
 admitted h cs intake u e = (grind (arith, nat_tests), grind (arith, nat_tests))
 
-pub room_fits : (bytes n m : ℕ) → m + 1 ≤ cond (leb bytes most_bytes) (room_for bytes n) 0
-    → (bytes ≤ most_bytes) × (entry_offset n + entry_size * (m + 1) ≤ bytes)
-room_fits bytes n m h = (grind (arith, nat_tests), grind (arith, nat_tests))
+pub room_fits : (bytes n m : ℕ) → m + 1 ≤ room_for bytes n → entry_offset n + entry_size * (m + 1) ≤ bytes
+room_fits bytes n m h = omega arith
 
 -- what holds of a journal that was made and used
 record Holds (j : Journal) (q : ℕ) (es : List Entry) : Type 0 where
@@ -77,7 +75,7 @@ holds_taken j k q es h cs o g =
     let c : q + 1 ≡ suc q = omega arith in
     let n : entry_count k ≡ entry_count j + length (h ∷ cs) = omega (arith, g.requests, g.containers_taken) in
     let b : bytes_of k ≡ grown (bytes_of j) (entry_count j) q (h ∷ cs) = g.bytes ∙ ap (λ x. grown (bytes_of j) (entry_count j) x (h ∷ cs)) o.count in
-    let s = sound_grown (bytes_of j) (entry_count j) q es h cs o.sound g.formed (omega (arith, r.1)) g.fit in
+    let s = sound_grown (bytes_of j) (entry_count j) q es h cs o.sound g.formed (omega (arith, r)) g.fit in
     record { count = omega (arith, g.requests, o.count); sound = rw (b, n, ← c) s }
 
 holds : {j : Journal} {q : ℕ} {es : List Entry} → Used j q es → Holds j q es

@@ -1,12 +1,12 @@
 -- Entries and the header as bytes: written, read back, and written again.
-use Rattle.std.proofs.Common.{◌≡◌, ℕ, zero, suc, ◌+◌, ◌-◌, ◌*◌, ◌/◌, ◌<◌, ◌≤◌, List, [], ◌∷◌, ◌++◌, length, map, length-take, get_or, take, drop, Some, sym, refl, ap, ◌∙◌, append_assoc, not-suc-le-zero, add_comm, suc-add, mul-zero, zero-add, mul-suc, arith, take-add}
+use Rattle.std.proofs.Common.{◌≡◌, ℕ, zero, suc, ◌+◌, ◌-◌, ◌*◌, ◌/◌, ◌<◌, ◌≤◌, List, [], ◌∷◌, ◌++◌, length, map, length-take, get_or, take, drop, sym, refl, ap, ◌∙◌, append_assoc, add_comm, suc-add, zero-add, mul-suc, arith, take-add}
 use native.Mathlib.Nat.{mul-div_right}
 use Rattle.std.specs.List.{AllByRecursion}
 use Rattle.std.proofs.ByRecursion.{All-take, All-drop}
 use Rattle.std.proofs.lemmas.List.{drop_all, drop_at, take-take, drop-take, drop-drop, length-append, length-take-le, length-drop, append-nil, take_more}
 use Rattle.entries.specs.declared.entry.Entry.{Entry}
 use Rattle.entries.specs.Written.{written}
-use Rattle.entries.proofs.WrittenLaws.{written_next, written_none}
+use Rattle.entries.proofs.WrittenLaws.{written_next}
 use Rattle.journal.specs.Codec.{pack, unpack, Fit}
 use Rattle.std.specs.Simd.{first_chunks}
 use Rattle.journal.specs.Layout.{entry_widths, entry_size, fields, of_fields, entry_bytes, entry_of, EntryFits, all_bytes}

@@ -1,5 +1,5 @@
 -- What a journal holds, what it is after a request, and how it is made.
-use Rattle.std.specs.Prelude.{◌≡◌, ℕ, suc, ◌+◌, ◌≤◌, true, cond, List, [], ◌∷◌, ◌++◌, length, take, Some, None, Ok, Err, Option, Result, nat_le}
+use Rattle.std.specs.Prelude.{◌≡◌, ℕ, suc, ◌+◌, ◌≤◌, true, List, [], ◌∷◌, ◌++◌, length, take, Some, None, Ok, Err, Option, Result}
 use Rattle.std.specs.Borrow.{MutBor}
 use Rattle.std.specs.List.{AllByRecursion}
 use Rattle.entries.specs.declared.entry.Entry.{Entry}
@@ -27,7 +27,7 @@ entries_of j = book_in (entry_count j) (bytes_of j)
 
 -- the entries that it would accept
 abbrev pub places_left : Journal → ℕ
-places_left j = cond (nat_le (length (bytes_of j)) most_bytes) (room_for (length (bytes_of j)) (entry_count j)) 0
+places_left j = room_for (length (bytes_of j)) (entry_count j)
 
 abbrev pub overrides_of : Journal → List Override
 overrides_of j = j.profile

@@ -1,7 +1,6 @@
 // A journal: a charging function that writes requests into lent bytes.
-ghost use Rattle.std.specs.Prelude.{◌≡◌};
-ghost use Rattle.journal.specs.Journals.{entries_of, places_left, overrides_of, Grown, JournalMade, reading, Faithful};
-ghost use Rattle.journal.specs.Readers.{answer};
+ghost use Rattle.std.specs.Prelude.{◌≡◌, ◌+◌, ◌≤◌, length};
+ghost use Rattle.journal.specs.Layout.{most_bytes, entry_offset};
 
 use crate::fault::*;
 use crate::layout::*;
@@ -19,9 +18,14 @@ pub struct Journal<'a> {
     requests: u32,
     containers: u32,
     profile: Profile<'a>,
+    ghost short: { length bytes.now ≤ most_bytes },
+    ghost within: { entry_offset (requests + containers) ≤ length bytes.now },
 }
 
 impl<'a> Journal<'a> {
+    ghost use Rattle.journal.specs.Journals.{JournalMade, reading, Faithful};
+    ghost use Rattle.journal.specs.Readers.{answer};
+
     // An empty journal over 16 to 1,048,576 lent bytes, with a profile of up to 32 overrides. The making writes the
     // header alone; a refused one writes nothing.
     pub fn new(
@@ -52,7 +56,9 @@ impl<'a> Journal<'a> {
     }
 }
 
-impl<'a> Taker for Journal<'a> {
+impl Taker for Journal<'_> {
+    ghost use Rattle.journal.specs.Journals.{entries_of, places_left, Grown};
+
     ghost book = { entries_of };
 
     ghost room = { places_left };
@@ -60,12 +66,8 @@ impl<'a> Taker for Journal<'a> {
     ghost took = { Grown };
 
     fn intake(&self) -> usize {
-        let length = self.bytes.len();
-        if length > MOST_BYTES {
-            return 0;
-        }
         let entries = self.requests as usize + self.containers as usize;
-        length.saturating_sub(entry_offset(entries)) / ENTRY_SIZE
+        (self.bytes.len() - entry_offset(entries)) / ENTRY_SIZE
     }
 
     fn take(&mut self, head: &Entry, containers: &[Entry]) -> Result<(), Declined> {
@@ -79,7 +81,9 @@ impl<'a> Taker for Journal<'a> {
     }
 }
 
-impl<'a> ChargingFunction for Journal<'a> {
+impl ChargingFunction for Journal<'_> {
+    ghost use Rattle.journal.specs.Journals.{overrides_of};
+
     ghost profile = { overrides_of };
 
     fn override_at(&self, i: usize) -> Option<Override> {

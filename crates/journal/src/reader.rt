@@ -28,7 +28,7 @@ fn check_entries(entries: &[[u8; ENTRY_SIZE]]) -> Result<usize, Fault>
 // The bytes of each entry.
 #[derive(Drop)]
 pub struct Reader<'a> {
-    pub(crate) entries: &'a [[u8; ENTRY_SIZE]],
+    entries: &'a [[u8; ENTRY_SIZE]],
 }
 
 // A reader of the entries alone, where header and entries are those of a journal.
@@ -93,7 +93,7 @@ pub struct Entries<'a> {
     rest: &'a [[u8; ENTRY_SIZE]],
 }
 
-impl<'a> Iterator for Entries<'a> {
+impl Iterator for Entries<'_> {
     type Item = Entry;
 
     ghost next_gives = { YieldsFirst left_of };

@@ -1,4 +1,4 @@
-use Rattle.std.proofs.Common.{◌≡◌, ◌+◌, ◌≤◌, ◌∷◌, length, refl, ap, ◌∙◌, arith}
+use Rattle.std.proofs.Common.{◌≡◌, ◌+◌, ◌∷◌, length, refl, ap, ◌∙◌, arith}
 use Rattle.journal.specs.Layout.{book_in}
 use Rattle.journal.specs.Journals.{entry_count, places_left}
 use Rattle.journal.proofs.GrowthLaws.{entries_grown}
@@ -11,7 +11,7 @@ returns-clause-after c =
     let n = entry_count j in
     let es = c.args.head.now ∷ c.args.containers.now in
     let room = (admitted c.args.head.now c.args.containers.now (places_left j) _ (rw c.intake.ensures at c.in_ok-admit.ensures)).1 in
-    let fits = (room_fits (length j.bytes.now) n (length c.args.containers.now) room).1 in
+    let fits = room_fits (length j.bytes.now) n (length c.args.containers.now) room in
     let k : (j.requests + 1) + (j.containers + length c.args.containers.now) ≡ n + length es = omega arith in
     ap (λ m. book_in m c.write_request.new.bytes) k
     ∙ (ap (book_in (n + length es)) c.write_request.ensures.bytes
