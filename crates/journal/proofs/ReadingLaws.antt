@@ -1,5 +1,6 @@
 -- What a reader answers, and what its answer says.
-use Rattle.std.proofs.Common.{◌≡◌, ℕ, ◌+◌, ◌-◌, ◌*◌, ◌<◌, ◌≤◌, Bool, true, cond, eqb, leb, List, [], map, length, get_or, sym, take, drop, Ok, Err, Result, refl, ap, ◌∙◌, arith, take-add}
+use Rattle.std.specs.Simd.{first_chunks}
+use Rattle.std.proofs.Common.{◌/◌, ◌≡◌, ℕ, ◌+◌, ◌-◌, ◌*◌, ◌<◌, ◌≤◌, Bool, true, cond, eqb, leb, List, [], map, length, get_or, sym, take, drop, Ok, Err, Result, refl, ap, ◌∙◌, arith, take-add}
 use Rattle.std.proofs.ByRecursion.{All-drop}
 use Rattle.std.proofs.lemmas.List.{length-drop, length-map}
 use Rattle.std.proofs.lemmas.Bool.{and_parts, leb-true, eqb-true, eqb-false, cond_both}
@@ -9,11 +10,11 @@ use Rattle.entries.proofs.SequenceLaws.{judged, judge_more}
 use Rattle.journal.specs.declared.fault.Fault.{Fault}
 use Rattle.journal.specs.declared.fault.Fault.TheVariants.{RequestCount}
 use Rattle.std.proofs.Math.ListN.{get_or-map}
-use Rattle.journal.specs.Layout.{entry_of, entry_size, header_size, spare, most_bytes}
+use Rattle.journal.specs.Layout.{entry_of, book_in, entry_size, header_size, spare, most_bytes}
 use Rattle.journal.specs.Layout.{entries_at, requests_at, free_at, spare_at, entry_offset, journal_bytes, word}
 use Rattle.journal.specs.Reading.{sized, ended, spared, entries_told, placed, counted, read, Framed, Meant}
 use Rattle.journal.proofs.CodecLaws.{Bytes}
-use Rattle.journal.proofs.LayoutLaws.{length_entries, header_bytes_of, all_bytes_of}
+use Rattle.journal.proofs.LayoutLaws.{chunked_body, length_entries, header_bytes_of, all_bytes_of}
 
 -- one entry of the test, read at its index
 pub judge_read : (bss : List (List ℕ)) (i due m left : ℕ) (e : Entry) (r : Bool) → i < length bss → left ≡ length bss - i - 1 → e ≡ entry_of (get_or bss i []) → r ≡ goes_on due e left
@@ -49,14 +50,22 @@ framed_bytes bs q small f e =
     let h = header_bytes_of bs n q small long (cc (e, free, rest)) in
     rw (l, h, all_bytes_of n (drop header_size bs) (All-drop _ header_size bs small) k) (take-add header_size (entry_size * n) bs)
 
--- the answer by what the entries are, and by the first that stops them
-pub counted_ok : (q n : ℕ) (es : List Entry) (r : Result ℕ ℕ) → Ok n ≡ placed r → counted q es r ≡ cond (eqb n q) (Ok es) (Err RequestCount)
-counted_ok q n es (Ok m) e = cc
-counted_ok q n es (Err i) e = cc
+-- the answer, once the entries are judged
+abbrev pub answered : (requests : ℕ) → List Entry → Result ℕ Fault → Result (List Entry) Fault
+answered q es (Ok count) = cond (eqb count q) (Ok es) (Err RequestCount)
+answered q es (Err fault) = Err fault
 
-pub counted_err : (q : ℕ) (f : Fault) (es : List Entry) (r : Result ℕ ℕ) → Err f ≡ placed r → counted q es r ≡ Err f
-counted_err q f es (Ok m) e = cc
-counted_err q f es (Err i) e = cc
+counted_placed : (q : ℕ) (es : List Entry) (r : Result ℕ ℕ) → counted q es r ≡ answered q es (placed r)
+counted_placed q es (Ok count) = refl
+counted_placed q es (Err index) = refl
+
+-- entries that are the parts of the bytes between the header and the free offset
+pub counted_read : (bs : List ℕ) (n free q : ℕ) (entries : List (List ℕ)) (r : Result ℕ Fault) → free ≡ entry_offset n → free ≤ length bs
+    → entries ≡ (let body = take (free - header_size) (drop header_size bs) in first_chunks entry_size (length body / entry_size) body) → r ≡ placed (requests_in (map entry_of entries))
+    → counted q (book_in n bs) (requests_in (book_in n bs)) ≡ answered q (map entry_of entries) r
+counted_read bs n free q entries r e h f g =
+    let b : map entry_of entries ≡ book_in n bs = rw f (chunked_body bs n free e h) in
+    rw (g, b) (counted_placed q (book_in n bs) (requests_in (book_in n bs)))
 
 module _ (bs : List ℕ) (small : Bytes bs) where
   counted_meant : (f : Framed bs) (r : Result ℕ ℕ) → r ≡ requests_in (entries_told bs) → Meant bs (counted (word requests_at bs) (entries_told bs) r)

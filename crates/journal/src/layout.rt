@@ -54,6 +54,7 @@ pub(crate) fn entry_offset(index: usize) -> usize
 }
 
 // The bytes of an entry.
+#[tactic(auto, unfolding(crate::specs::Layout::EntryFits))]
 pub(crate) fn entry_bytes(e: Entry) -> [u8; ENTRY_SIZE]
     ensures bytes { result ≡ entry_bytes e }
     ensures fits { EntryFits e }

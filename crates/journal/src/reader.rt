@@ -32,6 +32,7 @@ pub struct Reader<'a> {
 }
 
 // A reader of the entries alone, where header and entries are those of a journal.
+#[tactic(auto, unfolding(crate::specs::Reading::read))]
 fn open_bytes(bytes: &[u8]) -> Result<Reader<'_>, Fault>
     ensures { answer result ≡ read bytes.now }
 {

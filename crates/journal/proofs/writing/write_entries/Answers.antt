@@ -1,10 +1,7 @@
-use Rattle.std.proofs.Common.{◌≡◌, take, sym, ap, ◌∙◌, subst, arith}
-use Rattle.std.specs.List.{AllByRecursion}
-use Rattle.std.proofs.lemmas.List.{take_all}
+use Rattle.std.proofs.Common.{sym, arith}
 use Rattle.std.proofs.ByRecursion.{All-more}
-use Rattle.entries.specs.Written.{written}
 use Rattle.entries.proofs.WrittenLaws.{written_none}
-use Rattle.journal.specs.Layout.{EntryFits, all_bytes}
+use Rattle.journal.specs.Layout.{EntryFits}
 use Rattle.journal.proofs.LayoutLaws.{append_more}
 use Rattle.journal.proofs.writing.write_entries.Goals as goal
 
@@ -18,11 +15,3 @@ loop-i-preserved c = record {
       c.loop-i-test.true (omega arith) c.loop-i.invariant.bytes c.entry_bytes.ensures.bytes c.put.ensures;
   fits = All-more EntryFits c.args.es.now c.loop-i.i _ c.loop-i-test.true c.loop-i.invariant.fits c.entry_bytes.ensures.fits;
 }
-
-pub returns : goal.returns
-returns c =
-    let e : take c.loop-i.i c.args.es.now ≡ c.args.es.now = take_all _ c.args.es.now c.loop-i-test.false in
-    record {
-      bytes = c.loop-i.invariant.bytes ∙ ap (λ x. written c.args.bytes.now c.args.at (all_bytes x)) e;
-      fits = subst (AllByRecursion EntryFits) e c.loop-i.invariant.fits;
-    }

@@ -1,4 +1,4 @@
-use Rattle.std.proofs.Common.{◌≡◌, ◌+◌, ◌∷◌, length, refl, ap, ◌∙◌, arith}
+use Rattle.std.proofs.Common.{◌≡◌, ◌+◌, ◌∷◌, length, ap, ◌∙◌, arith}
 use Rattle.journal.specs.Layout.{book_in}
 use Rattle.journal.specs.Journals.{entry_count, places_left}
 use Rattle.journal.proofs.GrowthLaws.{entries_grown}
@@ -16,16 +16,3 @@ returns-clause-after c =
     ap (λ m. book_in m c.write_request.new.bytes) k
     ∙ (ap (book_in (n + length es)) c.write_request.ensures.bytes
     ∙ entries_grown j.bytes.now n j.requests es (omega (arith, fits)) c.write_request.ensures.fits)
-
-pub returns-clause-memory : goal.returns-clause-memory
-returns-clause-memory c =
-    let a = admitted c.args.head.now c.args.containers.now (places_left c.args.self.now) _ (rw c.intake.ensures at c.in_ok-admit.ensures) in
-    λ _. record {
-      bytes = c.write_request.ensures.bytes;
-      requests = refl;
-      containers_taken = refl;
-      overrides = refl;
-      formed = a.0;
-      room = a.1;
-      fit = c.write_request.ensures.fits;
-    }
