@@ -2,6 +2,7 @@
 use Rattle.std.proofs.Common.{◌≡◌, ℕ, zero, suc, ◌+◌, ◌-◌, ◌*◌, ◌/◌, ◌<◌, ◌≤◌, List, [], ◌∷◌, ◌++◌, length, map, length-take, get_or, take, drop, sym, refl, ap, ◌∙◌, append_assoc, add_comm, suc-add, zero-add, mul-suc, arith, take-add}
 use native.Mathlib.Nat.{mul-div_right}
 use Rattle.std.specs.List.{AllByRecursion}
+use Rattle.std.proofs.lemmas.List.Concat.{flat_map-append}
 use Rattle.std.proofs.ByRecursion.{All-take, All-drop}
 use Rattle.std.proofs.lemmas.List.{drop_all, drop_at, take-take, drop-take, drop-drop, length-append, length-take-le, length-drop, append-nil, take_more}
 use Rattle.entries.specs.declared.entry.Entry.{Entry}
@@ -78,17 +79,13 @@ pub length_all : (es : List Entry) → length (all_bytes es) ≡ entry_size * le
 length_all [] = refl
 length_all (e ∷ es) = length-append (entry_bytes e) (all_bytes es) ∙ omega (arith, length_entry e, length_all es)
 
-pub all_append : (es fs : List Entry) → all_bytes (es ++ fs) ≡ all_bytes es ++ all_bytes fs
-all_append [] fs = refl
-all_append (e ∷ es) fs = ap (λ x. entry_bytes e ++ x) (all_append es fs) ∙ sym (append_assoc (entry_bytes e) (all_bytes es) (all_bytes fs))
-
 -- one more entry written behind others
 pub append_more : (b : List ℕ) (at : ℕ) (es : List Entry) (i : ℕ) (d : Entry) (b₁ x b₂ : List ℕ) → i < length es → at + entry_size * length es ≤ length b
     → b₁ ≡ written b at (all_bytes (take i es)) → x ≡ entry_bytes (get_or es i d) → b₂ ≡ written b₁ (at + entry_size * i) x → b₂ ≡ written b at (all_bytes (take (i + 1) es))
 append_more b at es i d b₁ x b₂ lt room e f g =
     let l : length (take i es) ≡ i = length-take-le i es (omega arith) in
     let a : all_bytes (take (i + 1) es) ≡ all_bytes (take i es) ++ entry_bytes (get_or es i d) =
-    ap all_bytes (take_more es i d lt) ∙ (all_append (take i es) (get_or es i d ∷ []) ∙ ap (λ x. all_bytes (take i es) ++ x) (append-nil (entry_bytes (get_or es i d)))) in
+    ap all_bytes (take_more es i d lt) ∙ (flat_map-append entry_bytes (take i es) (get_or es i d ∷ []) ∙ ap (λ x. all_bytes (take i es) ++ x) (append-nil (entry_bytes (get_or es i d)))) in
     g ∙ (rw (e, f)
     (written_next b at (all_bytes (take i es)) (entry_bytes (get_or es i d)) (at + entry_size * i) (omega arith) (omega (arith, length_all (take i es), l))
     ∙ ap (written b at) (sym a)))

@@ -27,7 +27,7 @@ impl<'a> Journal<'a> {
     ghost use Rattle.journal.specs.Readers.{answer};
 
     // An empty journal over 16 to 1,048,576 lent bytes, with a profile of up to 32 overrides. The making writes the
-    // header alone; a refused one writes nothing.
+    // header alone; a refused one writes nothing, and gives the bytes back.
     pub fn new(
         bytes: &'a mut [u8],
         overrides: &'a [Override],
