@@ -3,6 +3,7 @@ ghost use Rattle.std.specs.Prelude.{◌≡◌};
 ghost use Rattle.journal.specs.Faults.{fault_number, fault_place, past_end_number};
 
 use crate::layout::*;
+use entries::refusal::Numbered;
 
 // What is wrong with a journal's bytes.
 #[derive(Clone, Copy, PartialEq, Eq, Debug)]
@@ -19,20 +20,19 @@ pub enum Fault {
     RequestCount,
 }
 
-impl Fault {
-    // The number that a caller meets: 11, 12 or 13.
-    pub fn number(self) -> u8
-        ensures { result ≡ fault_number self }
-    {
+impl Numbered for Fault {
+    ghost meant = { fault_number };
+
+    fn number(self) -> u8 {
         match self {
             Fault::Length(_) => 11,
-            Fault::FreeOffset => 12,
-            Fault::Spare => 12,
+            Fault::FreeOffset | Fault::Spare | Fault::RequestCount => 12,
             Fault::Form(_) => 13,
-            Fault::RequestCount => 12,
         }
     }
+}
 
+impl Fault {
     // The place: the length, the offset of the header's number, or that of the entry.
     pub fn place(self) -> usize
         ensures { result ≡ fault_place self }
@@ -51,13 +51,10 @@ impl Fault {
 #[derive(Clone, Copy, PartialEq, Eq, Debug)]
 pub struct PastEnd;
 
-impl PastEnd {
-    // The number that a caller meets: 4.
-    pub fn number(self) -> u8
-        ensures { result ≡ past_end_number }
-    {
-        match self {
-            PastEnd => 4,
-        }
+impl Numbered for PastEnd {
+    ghost meant = { λ _. past_end_number };
+
+    fn number(self) -> u8 {
+        4
     }
 }
