@@ -28,7 +28,10 @@ pub const KEY: ServiceKey = ServiceKey {
 
 // An answer that closed so many containers and reported nothing.
 fn expect(answer: Reported, closed: usize) -> Result<()> {
-    ensure!(answer.closed == closed && answer.due == Due::Nothing, "another answer than expected");
+    ensure!(
+        answer.closed == closed && answer.due == Due::Nothing,
+        "another answer than expected"
+    );
     Ok(())
 }
 
@@ -36,16 +39,22 @@ fn expect(answer: Reported, closed: usize) -> Result<()> {
 fn count<F: Taker>(session: &mut Session<Converged>, opened: Opened, function: &mut F) -> Result<()>
     ensures { (slip : ℕ) → Spendable (view session.old.ledger) slip 140 → Spendable (view session.new.ledger) slip 140 }
 {
-    ensure!(opened.applied == 0 && opened.passed == 0, "a profile was applied");
+    ensure!(
+        opened.applied == 0 && opened.passed == 0,
+        "a profile was applied"
+    );
     expect(session.start(KEY, 100, function)?, 0)?;
     expect(session.usage(KEY, 500, 1500, 110, function)?, 0)?;
-    expect(session.change(Trigger::TariffTime.number(), 120, function)?, 1)?;
+    expect(
+        session.change(Trigger::TariffTime.number(), 120, function)?,
+        1,
+    )?;
     expect(session.usage(KEY, 200, 0, 130, function)?, 0)
 }
 
 // Gives the slip back where the session cannot be finished; it stays with the caller where not even a shelving takes it.
 pub fn give_up(session: &mut Session<Converged>, slip: Slip) -> Result<(), Slip>
-    ensures { Spendable (view session.old.ledger) slip.id 140 → result ≡ Ok () }
+    ensures { Spendable (view session.old.ledger) slip.id 140 → result ≡ Ok tt }
 {
     match session.shelve(140, slip) {
         Ok(_) => Ok(()),
@@ -53,20 +62,33 @@ pub fn give_up(session: &mut Session<Converged>, slip: Slip) -> Result<(), Slip>
     }
 }
 
-// The session from its opening to its end.
-pub fn charge<F: ChargingFunction>(session: &mut Session<Converged>, function: &mut F) -> Result<()> {
-    let (opened, slip) = session.open(100, function)?;
-    let (why, slip) = match count(session, opened, function) {
-        Ok(()) => match session.finish(Trigger::SessionEnd.number(), 140, slip, function) {
-            Ok(2) => return Ok(()),
-            Ok(_) => bail!("another number of containers than expected"),
-            Err((why, slip)) => (why.into(), slip),
-        },
-        Err(why) => (why, slip),
-    };
+// Gives the slip of a session back that is open until the end.
+fn put_back(session: &mut Session<Converged>, slip: Slip)
+    requires { Spendable (view session.old.ledger) slip.id 140 }
+{
     match give_up(session, slip) {
-        Ok(()) => Err(why),
+        Ok(()) => {}
         Err(_) => unreachable!(),
+    }
+}
+
+// The session from its opening to its end. An error leaves no slip behind.
+pub fn charge<F: ChargingFunction>(
+    session: &mut Session<Converged>,
+    function: &mut F,
+) -> Result<()> {
+    let (opened, slip) = session.open(100, function)?;
+    if let Err(why) = count(session, opened, function) {
+        put_back(session, slip);
+        return Err(why);
+    }
+    match session.finish(Trigger::SessionEnd.number(), 140, slip, function) {
+        Ok(2) => Ok(()),
+        Ok(_) => bail!("another number of containers than expected"),
+        Err((why, slip)) => {
+            put_back(session, slip);
+            Err(why.into())
+        }
     }
 }
 

@@ -44,18 +44,23 @@ fn line_key(n: u32) -> ServiceKey {
     }
 }
 
-// Starts the lines, and counts the reports on them in turn; how many were accepted. They leave the slip as it is.
-fn count_reports<T: Taker>(session: &mut Session<Converged>, load: &Load, taker: &mut T) -> u64
+// Starts the lines. The slip stays as it is.
+fn start_lines<T: Taker>(session: &mut Session<Converged>, load: &Load, taker: &mut T)
     ensures { (slip : ℕ) → Spendable (view session.old.ledger) slip 140 → Spendable (view session.new.ledger) slip 140 }
 {
     for n in 0..load.lines {
         let _ = session.start(line_key(n), 1, taker);
     }
+}
+
+// Counts the reports on the lines in turn; how many were accepted. The slip stays as it is.
+fn count_reports<T: Taker>(session: &mut Session<Converged>, load: &Load, taker: &mut T) -> u64
+    ensures { (slip : ℕ) → Spendable (view session.old.ledger) slip 140 → Spendable (view session.new.ledger) slip 140 }
+{
     let mut accepted: u64 = 0;
     for (_, n) in (0..load.reports).zip((0..load.lines).cycle()) {
-        if session.usage(line_key(n), 1, 2, 2, taker).is_ok() {
-            accepted = accepted.wrapping_add(1);
-        }
+        let is_accepted = session.usage(line_key(n), 1, 2, 2, taker).is_ok();
+        accepted = accepted.wrapping_add(u64::from(is_accepted));
     }
     accepted
 }
@@ -66,6 +71,7 @@ fn run(rt: &HostRuntime) -> Result<()> {
     let mut table = [BLANK_ENTRY; PLACES];
     let mut book = Book::new(&mut table, &[])?;
     let (_, slip) = session.open(1, &mut book)?;
+    start_lines(&mut session, &load, &mut book);
     let accepted = count_reports(&mut session, &load, &mut book);
     if let Err((why, slip)) = session.finish(Trigger::SessionEnd.number(), 3, slip, &mut book) {
         return match give_up(&mut session, slip) {
