@@ -24,26 +24,7 @@ const NOTHING_CLOSED: Reported = Reported {
 };
 
 impl Ledger {
-    // Performs the act of an opening, applies the profile and hands over the Initial, to a function whose intake suffices.
-    fn begin<M: Method, F: ChargingFunction>(
-        &mut self,
-        method: &M,
-        act: Act,
-        t: u32,
-        function: &mut F,
-    ) -> Opened
-        requires fit { Fit (view self.old) t act }
-        requires none { closed_by (view self.old) act t ≡ 0 }
-        requires room { 1 ≤ F.Taker.room function.old }
-        ensures { Comes (opened M.Method.column (F.ChargingFunction.profile function.old) (view self.old) act t) (Ok result) (view self.new) F.Taker.book F.Taker.took function.old function.new }
-    {
-        let head = self.head(Kind::Initial, 0, 0, t);
-        self.perform(act, t);
-        let opened = apply(method, function, &mut self.settings);
-        let _ = function.take(&head, &[]);
-        opened
-    }
-
+    // Applies the profile and hands over the Initial, to a function whose intake suffices.
     pub(crate) fn open<M: Method, F: ChargingFunction>(
         &mut self,
         method: &M,
@@ -57,7 +38,11 @@ impl Ledger {
         if function.intake() < 1 {
             return Err(Refusal::IntakeTooSmall);
         }
-        Ok(self.begin(method, act, t, function))
+        let head = self.head(Kind::Initial, 0, 0, t);
+        self.perform(act, t);
+        let opened = apply(method, function, &mut self.settings);
+        let _ = function.take(&head, &[]);
+        Ok(opened)
     }
 
     // Decides a call, performs it and reports, unless there is no place for its containers. It is a function of its own, so
@@ -97,21 +82,7 @@ impl Ledger {
         self.carry_out(event, t, taker)
     }
 
-    // Performs the act of a finish and hands over the Termination, unless there is no place or no intake for it.
-    fn end<T: Taker>(&mut self, act: Act, t: u32, taker: &mut T) -> Result<usize, Refusal>
-        requires { Fit (view self.old) t act }
-        ensures comes { Comes (finishing (view self.old) t (T.Taker.room taker.old) (Ok act)) result (view self.new) T.Taker.book T.Taker.took taker.old taker.new }
-        ensures refused { is_ok result ≡ false → (self.new ≡ self.old) × (taker.new ≡ taker.old) }
-    {
-        let n = self.waiting.len() + self.places(&act, t)?;
-        if taker.intake() < n + 1 {
-            return Err(Refusal::IntakeTooSmall);
-        }
-        self.perform(act, t);
-        self.terminate(act.cause, t, taker);
-        Ok(n)
-    }
-
+    // Hands over the Termination, unless there is no place or no intake for it.
     pub(crate) fn finish<T: Taker>(
         &mut self,
         cause: u8,
@@ -123,7 +94,13 @@ impl Ledger {
         ensures refused { is_ok result ≡ false → (self.new ≡ self.old) × (taker.new ≡ taker.old) }
     {
         let act = self.decide(Event::Finish(cause), slip, t)?;
-        self.end(act, t, taker)
+        let n = self.waiting.len() + self.places(&act, t)?;
+        if taker.intake() < n + 1 {
+            return Err(Refusal::IntakeTooSmall);
+        }
+        self.perform(act, t);
+        self.terminate(act.cause, t, taker);
+        Ok(n)
     }
 
     pub(crate) fn shelve(&mut self, slip: u32, t: u32) -> Result<usize, Refusal>

@@ -1,11 +1,11 @@
 // Deciding what a call does, or why it is refused. Nothing here changes a session.
-ghost use Rattle.std.specs.Prelude.{◌≡◌, ◌+◌, ◌<◌, false, IfSome, IfOk, Some, None, vec_len, nat_le};
+ghost use Rattle.std.specs.Prelude.{◌≡◌, ◌+◌, ◌<◌, IfSome, IfOk, Some, None, vec_len, nat_le};
 ghost use Rattle.entries.specs.declared.trigger.Trigger.TheVariants.{TariffTime};
 ghost use Rattle.entries.specs.Numbers.{trigger_number};
 ghost use Rattle.session.specs.Deciding.{quiet, closing, open_act, start_at, start_act, count_act, active_place, usage_act, ending, end_act};
 ghost use Rattle.session.specs.Deciding.{changes_full, changed_marks, changing, change_act, tick_act, intervene_act, finish_act, shelve_act, decide};
 ghost use Rattle.session.specs.Sound.{Bounded};
-ghost use Rattle.session.specs.State.{setting, can_fire, limit_met, is_urgent, counted, over_total, open_octets, volume_sum, line_at, place_of};
+ghost use Rattle.session.specs.State.{setting, can_fire, limit_met, is_urgent, volume_sum, line_at, place_of};
 ghost use Rattle.session.specs.View.{view};
 
 use crate::answer::Refusal;
@@ -15,9 +15,6 @@ use crate::state::*;
 use entries::entry::*;
 use entries::key::LineId;
 use entries::trigger::*;
-
-// The largest tariff period.
-const LARGEST_PERIOD: u16 = 65_535;
 
 // An act that closes nothing.
 fn quiet_act(edit: Edit, marks: Marks, due: bool) -> Act
@@ -40,43 +37,11 @@ fn closing_act(edit: Edit, chosen: Selection, trigger: Trigger, marks: Marks, ur
 {
     let cause = trigger.number();
     Act {
-        edit,
         chosen,
         cause,
-        stop: None,
-        marks,
-        due: urgent,
         report: if urgent { cause } else { 0 },
+        ..quiet_act(edit, marks, urgent)
     }
-}
-
-// A line with a report counted.
-pub(crate) fn count(line: Line, up: u32, down: u32) -> Line
-    requires { Bounded line }
-    ensures value { result ≡ counted up down line }
-    ensures bounded { over_total result ≡ false → Bounded result }
-{
-    Line {
-        uplink: Uplink(line.uplink.0 + up as u64),
-        downlink: Downlink(line.downlink.0 + down as u64),
-        total_uplink: Uplink(line.total_uplink.0 + up as u64),
-        total_downlink: Downlink(line.total_downlink.0 + down as u64),
-        ..line
-    }
-}
-
-pub(crate) fn is_over_total(line: &Line) -> bool
-    ensures { result ≡ over_total line.now }
-{
-    line.total_uplink.0 > MOST_OCTETS || line.total_downlink.0 > MOST_OCTETS
-}
-
-// The open octets of both directions, for the limit of a line's volume.
-pub(crate) fn open_octets(line: &Line) -> u64
-    requires { Bounded line.now }
-    ensures { result ≡ open_octets line.now }
-{
-    line.uplink.0 + line.downlink.0
 }
 
 // Whether a count raised by 1 meets a limit.
@@ -219,7 +184,7 @@ impl Ledger {
             volume,
             ..self.marks
         };
-        if self.is_met(Trigger::LineVolume, open_octets(&line)) {
+        if self.is_met(Trigger::LineVolume, line.open_octets()) {
             return self.fired(Trigger::LineVolume, Selection::One(id), edit, marks);
         }
         quiet_act(edit, marks, false)
@@ -242,8 +207,8 @@ impl Ledger {
         ensures { result ≡ usage_act (view self.now) key up down }
     {
         let (id, i) = self.active_place(key)?;
-        let line = count(self.line(i), up, down);
-        if is_over_total(&line) {
+        let line = self.line(i).count(up, down);
+        if line.is_over_total() {
             return Err(Refusal::TooLarge);
         }
         Ok(self.count_act(id, i, up, down, line))
@@ -339,13 +304,10 @@ impl Ledger {
         let due = self.is_full(change) && self.is_urgent(Trigger::ConditionChanges)
             || self.is_urgent(change);
         Act {
-            edit: Edit::Keep,
             chosen: self.change_selection(change),
             cause: change.number(),
-            stop: None,
-            marks,
-            due,
             report: self.change_report(change),
+            ..quiet_act(Edit::Keep, marks, due)
         }
     }
 
@@ -356,7 +318,7 @@ impl Ledger {
         if !change.is_condition() || !self.setting(change).known {
             return Err(Refusal::OutOfRange);
         }
-        if change == Trigger::TariffTime && self.marks.period >= LARGEST_PERIOD {
+        if change == Trigger::TariffTime && self.marks.period == u16::MAX {
             return Err(Refusal::TooLarge);
         }
         Ok(self.changing(change))

@@ -1,9 +1,42 @@
-// Lists of lines: how many close, and closing them into containers.
-ghost use Rattle.std.specs.Prelude.{◌≡◌, ◌+◌, ◌≤◌, ◌++◌, length, vec_len, vec_capacity};
+// Lines: counting on them, and closing them into containers.
+ghost use Rattle.std.specs.Prelude.{◌≡◌, ◌+◌, ◌≤◌, false, ◌++◌, length, vec_len, vec_capacity};
 ghost use Rattle.session.specs.Closing.{closes, closes_by, container, restarted, closed_lines, closings, closing_count};
+ghost use Rattle.session.specs.Sound.{Bounded};
+ghost use Rattle.session.specs.State.{counted, over_total, open_octets};
 
 use crate::state::*;
 use entries::entry::*;
+
+impl Line {
+    // The line with a report counted.
+    pub(crate) fn count(self, up: u32, down: u32) -> Line
+        requires { Bounded self }
+        ensures value { result ≡ counted up down self }
+        ensures bounded { over_total result ≡ false → Bounded result }
+    {
+        Line {
+            uplink: Uplink(self.uplink.0 + up as u64),
+            downlink: Downlink(self.downlink.0 + down as u64),
+            total_uplink: Uplink(self.total_uplink.0 + up as u64),
+            total_downlink: Downlink(self.total_downlink.0 + down as u64),
+            ..self
+        }
+    }
+
+    pub(crate) fn is_over_total(&self) -> bool
+        ensures { result ≡ over_total self.now }
+    {
+        self.total_uplink.0 > MOST_OCTETS || self.total_downlink.0 > MOST_OCTETS
+    }
+
+    // The open octets of both directions, for the limit of a line's volume.
+    pub(crate) fn open_octets(&self) -> u64
+        requires { Bounded self.now }
+        ensures { result ≡ open_octets self.now }
+    {
+        self.uplink.0 + self.downlink.0
+    }
+}
 
 impl Selection {
     // Whether a line closes at a time.

@@ -16,19 +16,29 @@ use entries::method::Method;
 use entries::trigger::TRIGGERS;
 use std::alloc::Global;
 
-fn first_marks(phase: Phase) -> Marks
-    ensures { result ≡ record { phase = phase; period = 0; volume = 0; changes = 0; since = 0 } }
-{
-    Marks {
-        phase,
-        period: 0,
-        volume: 0,
-        changes: 0,
-        since: 0,
-    }
-}
-
 impl Ledger {
+    // A session that accepts no call, and needs no memory.
+    fn shelved(heap: Global, id: u32, settings: [Setting; TRIGGERS]) -> Ledger
+        ensures { view result ≡ before_calls id settings ShelvedPhase }
+    {
+        Ledger {
+            id,
+            settings,
+            marks: Marks {
+                phase: Phase::Shelved,
+                period: 0,
+                volume: 0,
+                changes: 0,
+                since: 0,
+            },
+            last: 0,
+            closed: 0,
+            owed: false,
+            lines: Vec::new(heap),
+            waiting: Vec::new(heap),
+        }
+    }
+
     // A fresh session with its memory reserved.
     fn fresh(
         heap: Global,
@@ -42,34 +52,11 @@ impl Ledger {
         if !thresholds.are_in_range() {
             return Err(NotMade::OutOfRange);
         }
-        let lines = Vec::with_capacity(heap, MOST_LINES)?;
-        let waiting = Vec::with_capacity(heap, MOST_WAITING)?;
-        Ok(Ledger {
-            id,
-            settings,
-            marks: first_marks(Phase::Fresh),
-            last: 0,
-            closed: 0,
-            owed: false,
-            lines,
-            waiting,
-        })
-    }
-
-    // A session that accepts no call, and needs no memory.
-    fn shelved(heap: Global, id: u32, settings: [Setting; TRIGGERS]) -> Ledger
-        ensures { view result ≡ before_calls id settings ShelvedPhase }
-    {
-        Ledger {
-            id,
-            settings,
-            marks: first_marks(Phase::Shelved),
-            last: 0,
-            closed: 0,
-            owed: false,
-            lines: Vec::new(heap),
-            waiting: Vec::new(heap),
-        }
+        let mut ledger = Ledger::shelved(heap, id, settings);
+        ledger.lines = Vec::with_capacity(heap, MOST_LINES)?;
+        ledger.waiting = Vec::with_capacity(heap, MOST_WAITING)?;
+        ledger.marks.phase = Phase::Fresh;
+        Ok(ledger)
     }
 }
 

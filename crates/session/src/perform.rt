@@ -19,7 +19,7 @@ use entries::taker::Taker;
 const REPORT_ABOVE: usize = 96;
 
 // The largest container number.
-const LARGEST_NUMBER: usize = 4_294_967_295;
+const LARGEST_NUMBER: usize = u32::MAX as usize;
 
 fn edit_lines(lines: &mut Vec<Line>, edit: Edit)
     requires within { EditWithin edit lines.old.items }

@@ -8,7 +8,6 @@ ghost use Rattle.session.specs.Performing.{reporting};
 ghost use Rattle.session.specs.Quiet.{Quiet, quietly};
 ghost use Rattle.session.specs.View.{view};
 
-use crate::decide::*;
 use crate::event::Event;
 use crate::ledger::*;
 use crate::state::*;
@@ -29,10 +28,10 @@ impl Ledger {
         if !line.active {
             return None;
         }
-        let line = count(line, up, down);
-        if is_over_total(&line)
+        let line = line.count(up, down);
+        if line.is_over_total()
             || self.is_met(Trigger::SessionVolume, self.volume_sum(up, down))
-            || self.is_met(Trigger::LineVolume, open_octets(&line))
+            || self.is_met(Trigger::LineVolume, line.open_octets())
         {
             return None;
         }
@@ -48,7 +47,7 @@ impl Ledger {
         let Some(i) = self.quiet_place(id, up, down, t) else {
             return false;
         };
-        let line = count(self.line(i), up, down);
+        let line = self.line(i).count(up, down);
         let volume = self.volume_sum(up, down);
         self.lines[i] = line;
         self.marks.volume = volume;

@@ -70,7 +70,8 @@ pub struct Closing {
 }
 
 // What an accepted call does: the edit, the lines that close and with which cause, the line that then stops, the marks
-// after it, and whether a report is due by the call itself, with its cause.
+// after it, and whether a report is due by the call itself. The cause of a report stands whether or not it is: one may be due
+// whatever the call.
 #[derive(Clone, Copy)]
 pub struct Act {
     pub edit: Edit,

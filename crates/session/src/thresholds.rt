@@ -11,7 +11,7 @@ use entries::trigger::*;
 use std::array;
 
 // The thresholds of the limits; 0 is no limit.
-#[derive(Clone, Copy)]
+#[derive(Clone, Copy, PartialEq, Eq, Debug)]
 pub struct Thresholds {
     // seconds
     pub session_time: u64,
