@@ -15,14 +15,14 @@ use Rattle.session.specs.declared.answer.Refusal.{Refusal}
 use Rattle.session.specs.declared.answer.Refusal.TheVariants.{IntakeTooSmall}
 use Rattle.session.specs.declared.event.Event.TheVariants.{Open as Opening, Start, Usage, End, Change, Tick, Intervene, Push, Finish, Shelve}
 use Rattle.session.specs.declared.state.Act.{Act}
-use Rattle.session.specs.declared.state.Trigger.{Trigger}
+use Rattle.session.specs.declared.state.Setting.{Setting}
 use Rattle.session.specs.Answers.{Answer, refused, number, told_opening, told_report, told_finish, told_shelving}
 use Rattle.session.specs.Deciding.{Call, decide}
 use Rattle.session.specs.Laws.{is_container}
 use Rattle.session.specs.Performing.{Outcome, acted, no_place, all_waiting, head, head_of, offer_taken, reported, report_unless, reporting, finish_unless, finishing, shelving, opening}
 use Rattle.session.specs.Performing.{report_above}
 use Rattle.session.specs.Profiles.{applied, applied_one, permitted, permitted_by, override_in_range, overridden}
-use Rattle.session.specs.State.{State, no_trigger}
+use Rattle.session.specs.State.{State, no_setting}
 use Rattle.session.specs.Steps.{Fed, answered, step, step_of, accepted as was_accepted}
 use Rattle.session.proofs.Fair.{Sound, FairAct, GoodInTime, is_finish, no_way, decide_fair}
 
@@ -45,8 +45,8 @@ pub record Kept (ws added waiting : List Entry) : Type 0 where
   pub added_is : added ≡ []
   pub waiting_is : waiting ≡ ws
 
-abbrev pub TariffOn : List Trigger → Type 0
-TariffOn ts = (get_or ts tariff_time no_trigger).known ≡ true → (get_or ts tariff_time no_trigger).enabled ≡ true
+abbrev pub TariffOn : List Setting → Type 0
+TariffOn ts = (get_or ts tariff_time no_setting).known ≡ true → (get_or ts tariff_time no_setting).enabled ≡ true
 
 pub record Did (s : State) (f : Fed (Option LineId)) (o : Outcome Answer) : Type 0 where
   pub act : Act
@@ -199,35 +199,35 @@ switch_left column fixed o h = go (column tariff_time) fixed h
         (and_parts (eqb o.switch 0 || r.switched) ((eqb o.category 0 || r.recategorised) && (eqb o.threshold 0 || is_limit o.trigger)) q).0
 
 -- one override of the tariff time, or of another trigger
-stays_on : (ts : List Trigger) (v : Trigger) → TariffOn ts
-    → (v.known ≡ true → (get_or ts tariff_time no_trigger).known ≡ true) → ((get_or ts tariff_time no_trigger).enabled ≡ true → v.enabled ≡ true)
+stays_on : (ts : List Setting) (v : Setting) → TariffOn ts
+    → (v.known ≡ true → (get_or ts tariff_time no_setting).known ≡ true) → ((get_or ts tariff_time no_setting).enabled ≡ true → v.enabled ≡ true)
     → TariffOn (set ts tariff_time v)
 stays_on ts v h k on = go (cases_lt tariff_time (length ts))
   where
     go : (tariff_time < length ts) ⊎ (length ts ≤ tariff_time) → TariffOn (set ts tariff_time v)
     go (inl l) =
-        let e = get_or-set_same ts tariff_time v no_trigger l in
-        subst (λ (x : Trigger). x.known ≡ true → x.enabled ≡ true) (sym e) (λ q. on (h (k q)))
-    go (inr l) = λ q. no_way (ap (λ (x : Trigger). x.known) (sym (get_or_past (set ts tariff_time v) tariff_time no_trigger (omega (arith, length-set ts tariff_time v)))) ∙ q)
+        let e = get_or-set_same ts tariff_time v no_setting l in
+        subst (λ (x : Setting). x.known ≡ true → x.enabled ≡ true) (sym e) (λ q. on (h (k q)))
+    go (inr l) = λ q. no_way (ap (λ (x : Setting). x.known) (sym (get_or_past (set ts tariff_time v) tariff_time no_setting (omega (arith, length-set ts tariff_time v)))) ∙ q)
 
-one_applied : (column : Column) → TariffFixed column → (o : Override) (ts : List Trigger) → permitted (column o.trigger) o ≡ true
-    → TariffOn ts → TariffOn (set ts o.trigger (overridden (get_or ts o.trigger no_trigger) o))
+one_applied : (column : Column) → TariffFixed column → (o : Override) (ts : List Setting) → permitted (column o.trigger) o ≡ true
+    → TariffOn ts → TariffOn (set ts o.trigger (overridden (get_or ts o.trigger no_setting) o))
 one_applied column fixed o ts p h = go (eqb o.trigger tariff_time) refl
   where
-    same : (n : ℕ) → n ≡ tariff_time → permitted (column n) o ≡ true → TariffOn (set ts n (overridden (get_or ts n no_trigger) o))
+    same : (n : ℕ) → n ≡ tariff_time → permitted (column n) o ≡ true → TariffOn (set ts n (overridden (get_or ts n no_setting) o))
     same n e q =
         let q7 : permitted (column tariff_time) o ≡ true = rw e at q in
-        rw e (stays_on ts (overridden (get_or ts tariff_time no_trigger) o) h (λ k. k)
-        (λ on. ap (λ (b : Bool). cond b (get_or ts tariff_time no_trigger).enabled (eqb o.switch 1)) (switch_left column fixed o q7) ∙ on))
+        rw e (stays_on ts (overridden (get_or ts tariff_time no_setting) o) h (λ k. k)
+        (λ on. ap (λ (b : Bool). cond b (get_or ts tariff_time no_setting).enabled (eqb o.switch 1)) (switch_left column fixed o q7) ∙ on))
 
-    go : (b : Bool) → eqb o.trigger tariff_time ≡ b → TariffOn (set ts o.trigger (overridden (get_or ts o.trigger no_trigger) o))
+    go : (b : Bool) → eqb o.trigger tariff_time ≡ b → TariffOn (set ts o.trigger (overridden (get_or ts o.trigger no_setting) o))
     go true e = same o.trigger (eqb-true o.trigger tariff_time e) p
     go false e =
-        subst (λ (x : Trigger). x.known ≡ true → x.enabled ≡ true)
-        (sym (get_or-set_other ts o.trigger tariff_time (overridden (get_or ts o.trigger no_trigger) o) no_trigger
+        subst (λ (x : Setting). x.known ≡ true → x.enabled ≡ true)
+        (sym (get_or-set_other ts o.trigger tariff_time (overridden (get_or ts o.trigger no_setting) o) no_setting
         (λ q. eqb-false o.trigger tariff_time e (sym q)))) h
 
-applied_keeps : (column : Column) → TariffFixed column → (os : List Override) (ts : List Trigger) → TariffOn ts → TariffOn (applied column os ts)
+applied_keeps : (column : Column) → TariffFixed column → (os : List Override) (ts : List Setting) → TariffOn ts → TariffOn (applied column os ts)
 applied_keeps column fixed [] ts h = h
 applied_keeps column fixed (o ∷ os) ts h =
     applied_keeps column fixed os (applied_one (column o.trigger) o ts)

@@ -22,7 +22,7 @@ use Rattle.session.specs.Deciding.{Call, open_act, start_at, count_act, usage_at
 use Rattle.session.specs.Deciding.{most_lines, largest_period, own_slip, timely, when_fresh, when_open, decide, decide_in}
 use Rattle.session.specs.Laws.{is_tariff_change, open_of, open_on}
 use Rattle.session.specs.Performing.{edited, stopped_at}
-use Rattle.session.specs.State.{State, trigger, can_fire, limit_met, line_at, no_line, new_line, counted, started, stopped, over_total, open_octets, volume_sum, place_of}
+use Rattle.session.specs.State.{State, setting, can_fire, limit_met, line_at, no_line, new_line, counted, started, stopped, over_total, open_octets, volume_sum, place_of}
 use Rattle.session.proofs.Places.{place_found}
 use Rattle.session.proofs.Updates.{is_line, active_line, any, update, Apart, Idle, same_sym, same_refl, not_active, apart_update, all_update, open_update, none_are, apart_push, open_push, count_one}
 use Rattle.session.proofs.Updates.{place_none, update_at, any_at, none_active, closed_update}
@@ -38,7 +38,7 @@ all_two P Q R f (x ∷ xs) h k = (f x h.0 k.0, all_two P Q R f xs h.1 k.1)
 pub record Sound (s : State) : Type 0 where
   pub apart : Apart s.lines
   pub idle : AllByRecursion Idle s.lines
-  pub tariff : (trigger s tariff_time).known ≡ true → (trigger s tariff_time).enabled ≡ true
+  pub tariff : (setting s tariff_time).known ≡ true → (setting s tariff_time).enabled ≡ true
   pub settled : s.marks.phase ≡ Ended → (s.waiting ≡ []) × ((d : Direction) (k : LineId) → open_on d k s.lines ≡ 0)
 
 -- the lines after a call's own start or count; which of them close, with which cause; which of them then stop
@@ -352,7 +352,7 @@ module _ (s : State) (t : ℕ) (sound : Sound s) where
 
   change_fair : (n : ℕ) → Good s (Change n) t (change_act s n)
   change_fair n =
-      cond_both (not (is_condition n && (trigger s n).known)) (Err OutOfRange) _ (Good s (Change n) t) (λ e. tt) (λ known.
+      cond_both (not (is_condition n && (setting s n).known)) (Err OutOfRange) _ (Good s (Change n) t) (λ e. tt) (λ known.
       cond_both (eqb n tariff_time && leb largest_period s.marks.period) (Err TooLarge) (Ok (changing s n)) (Good s (Change n) t) (λ e. tt) (λ e. record {
         stops = λ l. false;
         fair = record {
@@ -361,7 +361,7 @@ module _ (s : State) (t : ℕ) (sound : Sound s) where
           stops = λ l h. no_way h;
           tariff = λ h l on off.
               no_way (sym off ∙ (ap (λ (b : Bool). closes (cond b Active Nothing) t l)
-              (tariff_on n h (and_parts (is_condition n) (trigger s n).known (not-false _ known)).1) ∙ on));
+              (tariff_on n h (and_parts (is_condition n) (setting s n).known (not-false _ known)).1) ∙ on));
           final = λ h. no_way h;
         };
         stopped_is = closed_update (closes (changing s n).chosen t) t s.lines
@@ -370,10 +370,10 @@ module _ (s : State) (t : ℕ) (sound : Sound s) where
         phase = refl;
       }))
     where
-      tariff_on : (n : ℕ) → eqb n tariff_time ≡ true → (trigger s n).known ≡ true → (trigger s n).enabled ≡ true
+      tariff_on : (n : ℕ) → eqb n tariff_time ≡ true → (setting s n).known ≡ true → (setting s n).enabled ≡ true
       tariff_on n h known =
           let e = eqb-true n tariff_time h in
-          subst (λ (m : ℕ). (trigger s m).enabled ≡ true) (sym e) (sound.tariff (subst (λ (m : ℕ). (trigger s m).known ≡ true) e known))
+          subst (λ (m : ℕ). (setting s m).enabled ≡ true) (sym e) (sound.tariff (subst (λ (m : ℕ). (setting s m).known ≡ true) e known))
 
   -- an act that leaves the lines as they are
   kept_fair : (c : Call) (a : Act) → a.edit ≡ Keep → a.stop ≡ None → a.marks.period ≡ s.marks.period

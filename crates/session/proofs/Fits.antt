@@ -20,7 +20,7 @@ use Rattle.session.specs.Deciding.{changing, change_act, tick_act, intervene_act
 use Rattle.session.specs.Fit.{Fit, Known, EditWithin, StopWithin}
 use Rattle.session.specs.Performing.{edited}
 use Rattle.session.specs.Sound.{live, sound_line, sound_lines, volume_of_all}
-use Rattle.session.specs.State.{State, no_line, line_at, place_of, trigger, can_fire, limit_met, volume_sum, counted, over_total, open_octets, started, new_line}
+use Rattle.session.specs.State.{State, no_line, line_at, place_of, setting, can_fire, limit_met, volume_sum, counted, over_total, open_octets, started, new_line}
 use Rattle.session.proofs.Bounds.{bounds, bounds_hold, sound_parts, sound_from, sound_at, sound_set, sound_later, volume_set}
 use Rattle.session.proofs.Nothing.{none_close}
 use Rattle.session.proofs.Places.{place_within}
@@ -163,7 +163,7 @@ module _ (s : State) (sane : Sane s) (t : ℕ) (alive : live s.marks.phase ≡ t
 
   change_fits : (n : ℕ) → Fits s t (change_act s n)
   change_fits n =
-      cond_both (not (is_condition n && (trigger s n).known)) (Err OutOfRange) _ (Fits s t) (λ q. tt) (λ q.
+      cond_both (not (is_condition n && (setting s n).known)) (Err OutOfRange) _ (Fits s t) (λ q. tt) (λ q.
       cond_both (eqb n tariff_time && leb largest_period s.marks.period) (Err TooLarge) (Ok (changing s n)) (Fits s t) (λ q. tt)
       (λ q. keep_fit (changing s n) refl tt refl))
 

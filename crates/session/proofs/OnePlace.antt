@@ -23,7 +23,7 @@ use Rattle.session.specs.Closing.{restarted, closings}
 use Rattle.session.specs.Deciding.{Call, decide, decide_in}
 use Rattle.session.specs.Laws.{open_of, open_on, open_in, is_tariff_change, next_period, reported_on, accepted_octets, period_after, Decides, SameCall, acceptances, EveryOctetHasOnePlace, FinishedSessionsAgree}
 use Rattle.session.specs.Performing.{Outcome, reporting}
-use Rattle.session.specs.Profiles.{trigger_made}
+use Rattle.session.specs.Profiles.{setting_made}
 use Rattle.session.specs.State.{State, stopped}
 use Rattle.session.specs.Steps.{Making, as_made, Fed, answered, seen_event, seen, step, step_of, accepted, Run, after, run}
 use Rattle.session.proofs.Doing.{Did, Sent, Kept, Done, step_does}
@@ -336,7 +336,7 @@ module _ {K : Type 0} (x : Coding K) where
     pub made_sound : (m : Making) → Sound (as_made column m)
     made_sound m = record { apart = tt; idle = tt; tariff = go (column tariff_time); settled = λ h. (refl, λ d k. refl) }
       where
-        go : (r : Option Rule) → (trigger_made r m.thresholds tariff_time).known ≡ true → (trigger_made r m.thresholds tariff_time).enabled ≡ true
+        go : (r : Option Rule) → (setting_made r m.thresholds tariff_time).known ≡ true → (setting_made r m.thresholds tariff_time).enabled ≡ true
         go None h = no_way h
         go (Some r) h = refl
 

@@ -22,7 +22,7 @@ use Rattle.session.specs.Deciding.{Call, most_lines, largest_period, start_at, c
 use Rattle.session.specs.Laws.{Does}
 use Rattle.session.specs.Performing.{Outcome, acted, no_place, offer, report_above, reported, report_unless, reporting, shelving, opened, opening}
 use Rattle.session.specs.Slips.{Spendable}
-use Rattle.session.specs.State.{State, trigger, can_fire, line_at, place_of, limit_met, volume_sum, counted, over_total, open_octets}
+use Rattle.session.specs.State.{State, setting, can_fire, line_at, place_of, limit_met, volume_sum, counted, over_total, open_octets}
 use Rattle.session.specs.Steps.{fed, seen, seen_event, may_report, answered, step, accepted, is_accepted}
 use Rattle.session.proofs.Fair.{no_way}
 use Rattle.session.proofs.Lawful.{reports}
@@ -57,7 +57,7 @@ module _ (s : State) where
 
   change_keeps : (n : ℕ) → Keeps (change_act s n)
   change_keeps n =
-      cond_both (not (is_condition n && (trigger s n).known)) (Err OutOfRange) _ Keeps (λ q. tt) (λ q.
+      cond_both (not (is_condition n && (setting s n).known)) (Err OutOfRange) _ Keeps (λ q. tt) (λ q.
       cond_both (eqb n tariff_time && leb largest_period s.marks.period) (Err TooLarge) (Ok _) Keeps (λ q. tt) (λ q. refl))
 
   tick_keeps : (t : ℕ) → (tick_act s t).marks.phase ≡ s.marks.phase

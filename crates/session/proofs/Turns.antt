@@ -1,20 +1,21 @@
--- One turn of the loops over the lines.
-use Rattle.std.proofs.Common.{◌≡◌, ℕ, ◌+◌, ◌<◌, ◌≤◌, Bool, true, false, cond, List, [], ◌∷◌, ◌++◌, length, get_or, take, drop, set, Some, sym, refl, ap, ◌∙◌, subst, append_assoc, append-nil, arith}
+-- The lines that close: how many they are, and one turn of the loop that closes them.
+use Rattle.std.proofs.Common.{◌≡◌, ℕ, ◌+◌, ◌<◌, ◌≤◌, Bool, true, false, cond, List, [], ◌∷◌, ◌++◌, length, get_or, take, drop, set, sym, refl, ap, ◌∙◌, subst, append_assoc, append-nil, arith}
+use Rattle.std.specs.List.{count_by}
+use Rattle.std.proofs.lemmas.List.Recursion.{is_count_by}
 use Rattle.std.proofs.lemmas.List.{at_drop_more, at_drop_all, drop_more, take_more, take_more_set, drop-set-lt, take_all}
 use Rattle.entries.specs.declared.entry.Entry.{Entry}
-use Rattle.entries.specs.declared.key.LineId.{LineId}
 use Rattle.session.specs.declared.state.Line.{Line}
-use Rattle.entries.specs.Keys.{same_line}
 use Rattle.session.specs.Closing.{closing_count, closed_lines, closings, container, restarted}
-use Rattle.session.specs.State.{place_from}
 
-pub place_at :
-    (k : LineId) (ls : List Line) (i : ℕ) (d : Line) (r : Bool) → i < length ls → r ≡ same_line (get_or ls i d).id k
-    → place_from i k (drop i ls) ≡ cond r (Some i) (place_from (i + 1) k (drop (i + 1) ls))
-place_at k ls i d r h e =
-    at_drop_more (place_from i k) ls i d h ∙ ap (λ x. cond x (Some i) (place_from (i + 1) k (drop (i + 1) ls))) (sym e)
+-- the lines that close, counted
+pub count_is : (p : Line → Bool) (ls : List Line) → closing_count p ls ≡ count_by p ls
+count_is p ls = is_count_by (closing_count p) p refl (λ l ks. one_more (p l) (closing_count p ks)) ls
+  where
+    one_more : (b : Bool) (n : ℕ) → cond b 1 0 + n ≡ cond b (1 + n) n
+    one_more true n = refl
+    one_more false n = omega arith
 
-pub count_at :
+count_at :
     (p : Line → Bool) (ls : List Line) (i : ℕ) (d : Line) (r : Bool) → i < length ls → r ≡ p (get_or ls i d)
     → closing_count p (drop i ls) ≡ cond r 1 0 + closing_count p (drop (i + 1) ls)
 count_at p ls i d r h e =

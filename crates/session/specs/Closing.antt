@@ -2,6 +2,7 @@
 use Rattle.std.specs.Prelude.{ℕ, ◌+◌, ◌-◌, Bool, false, cond, ◌&&◌, List, [], ◌∷◌, nat_le}
 use Rattle.entries.specs.declared.entry.Entry.{Entry}
 use Rattle.entries.specs.Keys.{same_line}
+use Rattle.session.specs.declared.state.Closing.{Closing}
 use Rattle.session.specs.declared.state.Line.{Line}
 use Rattle.session.specs.declared.state.Selection.{Selection}
 use Rattle.session.specs.declared.state.Selection.TheVariants.{Nothing, Active, One, OpenFor}
@@ -12,6 +13,9 @@ closes Nothing t l = false
 closes Active t l = l.active
 closes (One k) t l = l.active && same_line l.id k
 closes (OpenFor n) t l = l.active && nat_le n (t - l.since)
+
+abbrev pub closes_by : Closing → Line → Bool
+closes_by c = closes c.chosen c.time
 
 -- the container that a line's open count closes into
 abbrev pub container : (cause period number to : ℕ) → Line → Entry

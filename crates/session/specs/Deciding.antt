@@ -16,7 +16,7 @@ use Rattle.session.specs.declared.state.Phase.TheVariants.{Fresh, Open, Ended, S
 use Rattle.session.specs.declared.state.Selection.{Selection}
 use Rattle.session.specs.declared.state.Selection.TheVariants.{Nothing, Active, One, OpenFor}
 use Rattle.session.specs.Closing.{closes, closing_count}
-use Rattle.session.specs.State.{State, trigger, can_fire, limit_met, is_urgent, in_phase, with_volume, with_since, volume_sum, line_at, place_of, new_line, started, counted, over_total, open_octets}
+use Rattle.session.specs.State.{State, setting, can_fire, limit_met, is_urgent, in_phase, with_volume, with_since, volume_sum, line_at, place_of, new_line, started, counted, over_total, open_octets}
 
 -- a call as the steps see it: of its key, the line that it names, or none where the key is out of range
 abbrev pub Call : Type 0
@@ -79,6 +79,15 @@ abbrev pub start_act : State → Option LineId → ℕ → Result Act Refusal
 start_act s None t = Err OutOfRange
 start_act s (Some k) t = start_at s k t (place_of s k)
 
+-- the line that a key names and its place, where it is active
+abbrev pub active_at : State → LineId → Option ℕ → Result (LineId × ℕ) Refusal
+active_at s k None = Err NoActiveLine
+active_at s k (Some i) = cond (line_at s i).active (Ok (k, i)) (Err NoActiveLine)
+
+abbrev pub active_place : State → Option LineId → Result (LineId × ℕ) Refusal
+active_place s None = Err OutOfRange
+active_place s (Some k) = active_at s k (place_of s k)
+
 -- a usage report: it is counted; then the session's volume limit closes all active lines, or else the line's own limit
 -- closes that line
 abbrev pub count_act : State → LineId → (i uplink downlink : ℕ) → Line → Act
@@ -122,10 +131,10 @@ end_act s (Some k) = end_at s k (place_of s k)
 -- a change of conditions: where its trigger is enabled, all active lines close and the change counts towards the limit of
 -- changes, if that can fire; a tariff change raises the period
 abbrev pub counts_change : State → ℕ → Bool
-counts_change s n = (trigger s n).enabled && can_fire s condition_changes
+counts_change s n = (setting s n).enabled && can_fire s condition_changes
 
 abbrev pub changes_full : State → ℕ → Bool
-changes_full s n = (trigger s n).enabled && limit_met s condition_changes (s.marks.changes + 1)
+changes_full s n = (setting s n).enabled && limit_met s condition_changes (s.marks.changes + 1)
 
 abbrev pub changed_marks : State → ℕ → Marks
 changed_marks s n = record {
@@ -139,7 +148,7 @@ changed_marks s n = record {
 abbrev pub changing : State → ℕ → Act
 changing s n = record {
   edit = Keep;
-  chosen = cond (trigger s n).enabled Active Nothing;
+  chosen = cond (setting s n).enabled Active Nothing;
   cause = n;
   stop = None;
   marks = changed_marks s n;
@@ -149,7 +158,7 @@ changing s n = record {
 
 abbrev pub change_act : State → ℕ → Result Act Refusal
 change_act s n =
-    cond (not (is_condition n && (trigger s n).known)) (Err OutOfRange)
+    cond (not (is_condition n && (setting s n).known)) (Err OutOfRange)
     (cond (n == tariff_time && nat_le largest_period s.marks.period) (Err TooLarge) (Ok (changing s n)))
 
 -- the time goes on: the session's time limit closes all active lines, or else each line that is open for too long closes
@@ -158,8 +167,8 @@ tick_act s t =
     cond (limit_met s session_time_limit (t - s.marks.since))
     (closing Keep Active session_time_limit (with_since t s.marks) (is_urgent s session_time_limit))
     (cond (can_fire s line_time_limit)
-    (closing Keep (OpenFor (trigger s line_time_limit).threshold) line_time_limit s.marks
-    (is_urgent s line_time_limit && nat_lt 0 (closing_count (closes (OpenFor (trigger s line_time_limit).threshold) t) s.lines)))
+    (closing Keep (OpenFor (setting s line_time_limit).threshold) line_time_limit s.marks
+    (is_urgent s line_time_limit && nat_lt 0 (closing_count (closes (OpenFor (setting s line_time_limit).threshold) t) s.lines)))
     (quiet Keep s.marks false))
 
 abbrev pub intervene_act : State → Act

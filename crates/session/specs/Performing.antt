@@ -69,6 +69,11 @@ no_place s a t =
     cond (nat_lt largest_32 (s.closed + closed_by s a t)) (Some TooLarge)
     (cond (nat_lt most_waiting (length s.waiting + closed_by s a t)) (Some WaitingFull) None)
 
+-- an answer, unless there is a reason to refuse it
+abbrev pub unless : {A : Type 0} → Option Refusal → A → Result A Refusal
+unless None a = Ok a
+unless (Some r) a = Err r
+
 -- requests
 
 abbrev pub head : (kind cause period number time id : ℕ) → Entry

@@ -1,5 +1,6 @@
 -- Triggers as made, and the overrides of a profile.
 use Rattle.std.specs.Prelude.{ℕ, ◌+◌, Bool, true, false, cond, ◌&&◌, ◌||◌, List, [], ◌∷◌, map, Some, None, Option, ◌==◌, nat_le, nat_lt, slice_index_or, slice_set}
+use Rattle.std.specs.Bool.{then_some}
 use Rattle.std.specs.List.{range_with_len}
 use Rattle.entries.specs.declared.method.Rule.{Rule}
 use Rattle.entries.specs.declared.taker.Override.{Override}
@@ -7,8 +8,9 @@ use Rattle.entries.specs.Columns.{Column}
 use Rattle.entries.specs.Entries.{most_octets}
 use Rattle.entries.specs.Triggers.{session_time_limit, session_volume_limit, condition_changes, line_time_limit, abort, is_limit}
 use Rattle.session.specs.declared.thresholds.Thresholds.{Thresholds}
-use Rattle.session.specs.declared.state.Trigger.{Trigger}
-use Rattle.session.specs.State.{no_trigger}
+use Rattle.session.specs.declared.profile.Change.{Change}
+use Rattle.session.specs.declared.state.Setting.{Setting}
+use Rattle.session.specs.State.{no_setting}
 
 -- triggers as made
 
@@ -24,15 +26,15 @@ in_range th =
     && (nat_le th.line_time most_octets && nat_le th.line_volume most_octets)))
 
 -- a limit starts enabled where its threshold is above 0, every other trigger of the method starts enabled
-abbrev pub trigger_made : Option Rule → Thresholds → ℕ → Trigger
-trigger_made None th n = no_trigger
-trigger_made (Some r) th n =
+abbrev pub setting_made : Option Rule → Thresholds → ℕ → Setting
+setting_made None th n = no_setting
+setting_made (Some r) th n =
     cond (is_limit n)
     (record { known = true; enabled = nat_lt 0 (threshold_of th n); immediate = r.immediate; threshold = threshold_of th n })
     (record { known = true; enabled = true; immediate = r.immediate; threshold = 0 })
 
-abbrev pub settings_made : Column → Thresholds → List Trigger
-settings_made column th = map (λ n. trigger_made (column n) th n) (range_with_len 0 21)
+abbrev pub settings_made : Column → Thresholds → List Setting
+settings_made column th = map (λ n. setting_made (column n) th n) (range_with_len 0 21)
 
 -- overrides
 
@@ -52,7 +54,7 @@ abbrev pub permitted : Option Rule → Override → Bool
 permitted None o = false
 permitted (Some r) o = override_in_range o && permitted_by r o
 
-abbrev pub overridden : Trigger → Override → Trigger
+abbrev pub overridden : Setting → Override → Setting
 overridden g o = record {
   known = g.known;
   enabled = cond (o.switch == 0) g.enabled (o.switch == 1);
@@ -60,11 +62,19 @@ overridden g o = record {
   threshold = cond (o.threshold == 0) g.threshold o.threshold;
 }
 
-abbrev pub applied_one : Option Rule → Override → List Trigger → List Trigger
-applied_one r o ts = cond (permitted r o) (slice_set ts o.trigger (overridden (slice_index_or ts o.trigger no_trigger) o)) ts
+-- an override as what it changes in a setting
+abbrev pub change_of : Override → Change
+change_of o = record {
+  enabled = then_some (nat_lt 0 o.switch) (o.switch == 1);
+  immediate = then_some (nat_lt 0 o.category) (o.category == 2);
+  threshold = then_some (nat_lt 0 o.threshold) o.threshold;
+}
+
+abbrev pub applied_one : Option Rule → Override → List Setting → List Setting
+applied_one r o ts = cond (permitted r o) (slice_set ts o.trigger (overridden (slice_index_or ts o.trigger no_setting) o)) ts
 
 -- later overrides act on what earlier ones left
-abbrev pub applied : Column → List Override → List Trigger → List Trigger
+abbrev pub applied : Column → List Override → List Setting → List Setting
 applied column [] ts = ts
 applied column (o ∷ os) ts = applied column os (applied_one (column o.trigger) o ts)
 

@@ -7,11 +7,11 @@ use Rattle.entries.specs.Keys.{same_line}
 use Rattle.session.specs.declared.state.Line.{Line}
 use Rattle.session.specs.declared.state.Marks.{Marks}
 use Rattle.session.specs.declared.state.Phase.{Phase}
-use Rattle.session.specs.declared.state.Trigger.{Trigger}
+use Rattle.session.specs.declared.state.Setting.{Setting}
 
 pub record State : Type 0 where
   pub id : ℕ
-  pub settings : List Trigger
+  pub settings : List Setting
   pub marks : Marks
   pub last : ℕ
   pub closed : ℕ
@@ -21,23 +21,23 @@ pub record State : Type 0 where
 
 -- triggers
 
-abbrev pub no_trigger : Trigger
-no_trigger = record { known = false; enabled = false; immediate = false; threshold = 0 }
+abbrev pub no_setting : Setting
+no_setting = record { known = false; enabled = false; immediate = false; threshold = 0 }
 
-abbrev pub trigger : State → ℕ → Trigger
-trigger s n = slice_index_or s.settings n no_trigger
+abbrev pub setting : State → ℕ → Setting
+setting s n = slice_index_or s.settings n no_setting
 
 -- a limit can fire only if enabled with a threshold above 0
 abbrev pub can_fire : State → ℕ → Bool
-can_fire s n = (trigger s n).enabled && nat_lt 0 (trigger s n).threshold
+can_fire s n = (setting s n).enabled && nat_lt 0 (setting s n).threshold
 
 -- and fires where what it limits has met the threshold
 abbrev pub limit_met : State → ℕ → (measure : ℕ) → Bool
-limit_met s n measure = can_fire s n && nat_le (trigger s n).threshold measure
+limit_met s n measure = can_fire s n && nat_le (setting s n).threshold measure
 
 -- a report is due where an enabled immediate trigger fires
 abbrev pub is_urgent : State → ℕ → Bool
-is_urgent s n = (trigger s n).enabled && (trigger s n).immediate
+is_urgent s n = (setting s n).enabled && (setting s n).immediate
 
 -- marks
 

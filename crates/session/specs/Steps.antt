@@ -1,8 +1,9 @@
 -- A session step by step: its making, and one step for each call, fed with the call and with the intake and the profile of
 -- what it is lent.
-use Rattle.std.specs.Prelude.{◌≡◌, ℕ, Bool, true, false, cond, ◌&&◌, List, [], ◌∷◌, ◌++◌, Some, None, Option, nat_le}
+use Rattle.std.specs.Prelude.{◌≡◌, ℕ, Bool, true, false, cond, ◌&&◌, List, [], ◌∷◌, ◌++◌, Some, None, Ok, Err, Option, Result, nat_le}
 use Rattle.entries.specs.declared.entry.Entry.{Entry}
 use Rattle.entries.specs.declared.key.LineId.{LineId}
+use Rattle.entries.specs.declared.making.Refused.{Refused}
 use Rattle.entries.specs.declared.taker.Override.{Override}
 use Rattle.entries.specs.Columns.{Column}
 use Rattle.entries.specs.Entries.{largest_32}
@@ -13,7 +14,7 @@ use Rattle.session.specs.declared.event.Event.{Event}
 use Rattle.session.specs.declared.event.Event.TheVariants.{Open as Opening, Start, Usage, End, Change, Tick, Intervene, Push, Finish, Shelve}
 use Rattle.session.specs.declared.thresholds.Thresholds.{Thresholds}
 use Rattle.session.specs.declared.state.Phase.{Phase}
-use Rattle.session.specs.declared.state.Trigger.{Trigger}
+use Rattle.session.specs.declared.state.Setting.{Setting}
 use Rattle.session.specs.declared.state.Phase.TheVariants.{Fresh, Shelved}
 use Rattle.session.specs.Answers.{Answer, refused, told_opening, told_report, told_finish, told_shelving}
 use Rattle.session.specs.Answers.{opened as was_opened, reported as was_reported, sent as was_sent, waiting as was_shelved}
@@ -39,7 +40,7 @@ first_phase None = Fresh
 first_phase (Some r) = Shelved
 
 -- a session before its first call
-abbrev pub before_calls : ℕ → List Trigger → Phase → State
+abbrev pub before_calls : ℕ → List Setting → Phase → State
 before_calls id settings phase = record {
   id = id;
   settings = settings;
@@ -54,6 +55,15 @@ before_calls id settings phase = record {
 -- the session as made; shelved if its making is refused
 abbrev pub as_made : Column → Making → State
 as_made column m = before_calls m.id (settings_made column m.thresholds) (first_phase (making_refused m))
+
+-- what is made, or left of a refused making, and why it is refused
+abbrev pub made : {W T : Type 0} → Result T (Refused W T) → T
+made (Ok s) = s
+made (Err r) = r.left
+
+abbrev pub refused_why : {W T : Type 0} → Result T (Refused W T) → Option W
+refused_why (Ok s) = None
+refused_why (Err r) = Some r.why
 
 -- a session was made: whether there was memory is all that its answer leaves open
 pub record Made (column : Column) (id : ℕ) (thresholds : Thresholds) (answer : Option NotMade) (s : State) : Type 0 where

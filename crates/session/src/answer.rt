@@ -1,12 +1,18 @@
 // What calls answer.
 ghost use Rattle.std.specs.Prelude.{◌≡◌};
+ghost use Rattle.session.specs.declared.answer.NotMade.TheVariants.{NoMemory};
+ghost use Rattle.session.specs.declared.answer.Refusal.TheVariants.{OutOfRange};
 ghost use Rattle.session.specs.Answers.{number, not_made_number};
+
+use entries::refusal::Numbered;
+use entries::trigger::NoTrigger;
+use std::alloc::AllocError;
 
 // Why a call is refused. The first that holds is answered, in the order of the numbers.
 #[derive(Clone, Copy, PartialEq, Eq, Debug)]
 pub enum Refusal {
     // the call is not for a session in this phase
-    WrongPhase,
+    WrongPhase = 1,
     // the slip has another charging id
     OtherSlip,
     // the time is before that of the last accepted call
@@ -27,23 +33,21 @@ pub enum Refusal {
     IntakeTooSmall,
 }
 
-impl Refusal {
-    // The number that a caller meets: 1 to 10.
-    pub fn number(self) -> u8
-        ensures { result ≡ number self }
-    {
-        match self {
-            Refusal::WrongPhase => 1,
-            Refusal::OtherSlip => 2,
-            Refusal::Early => 3,
-            Refusal::OutOfRange => 4,
-            Refusal::LineActive => 5,
-            Refusal::NoActiveLine => 6,
-            Refusal::TooManyLines => 7,
-            Refusal::TooLarge => 8,
-            Refusal::WaitingFull => 9,
-            Refusal::IntakeTooSmall => 10,
-        }
+// The number that a caller meets: 1 to 10.
+impl Numbered for Refusal {
+    ghost meant = { number };
+
+    fn number(self) -> u8 {
+        self as u8
+    }
+}
+
+// A number that no trigger has is out of range.
+impl From<NoTrigger> for Refusal {
+    ghost from_gives = { λ _ r. r ≡ OutOfRange };
+
+    fn from(_: NoTrigger) -> Refusal {
+        Refusal::OutOfRange
     }
 }
 
@@ -51,20 +55,25 @@ impl Refusal {
 #[derive(Clone, Copy, PartialEq, Eq, Debug)]
 pub enum NotMade {
     // a threshold is too large
-    OutOfRange,
+    OutOfRange = 4,
     // there is no memory for its lines and containers
-    NoMemory,
+    NoMemory = 14,
 }
 
-impl NotMade {
-    // The number that a caller meets: 4 or 14.
-    pub fn number(self) -> u8
-        ensures { result ≡ not_made_number self }
-    {
-        match self {
-            NotMade::OutOfRange => 4,
-            NotMade::NoMemory => 14,
-        }
+// The number that a caller meets: 4 or 14.
+impl Numbered for NotMade {
+    ghost meant = { not_made_number };
+
+    fn number(self) -> u8 {
+        self as u8
+    }
+}
+
+impl From<AllocError> for NotMade {
+    ghost from_gives = { λ _ r. r ≡ NoMemory };
+
+    fn from(_: AllocError) -> NotMade {
+        NotMade::NoMemory
     }
 }
 

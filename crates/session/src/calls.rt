@@ -10,10 +10,9 @@ ghost use Rattle.session.specs.View.{view};
 use crate::answer::*;
 use crate::event::Event;
 use crate::ledger::*;
-use crate::perform::make_head;
 use crate::profile::apply;
 use crate::state::*;
-use entries::entry::INITIAL;
+use entries::entry::Kind;
 use entries::key::LineId;
 use entries::method::Method;
 use entries::taker::*;
@@ -38,7 +37,7 @@ impl Ledger {
         requires room { 1 ≤ F.Taker.room function.old }
         ensures { Comes (opened M.Method.column (F.ChargingFunction.profile function.old) (view self.old) act t) (Ok result) (view self.new) F.Taker.book F.Taker.took function.old function.new }
     {
-        let head = make_head(INITIAL, 0, self.marks.period, 0, t, self.id);
+        let head = self.head(Kind::Initial, 0, 0, t);
         self.perform(act, t);
         let opened = apply(method, function, &mut self.settings);
         let _ = function.take(&head, &[]);
@@ -61,16 +60,21 @@ impl Ledger {
         Ok(self.begin(method, act, t, function))
     }
 
-    // Performs an act and reports, unless there is no place for its containers.
-    fn settle<T: Taker>(&mut self, act: Act, t: u32, taker: &mut T) -> Result<Reported, Refusal>
-        requires { Fit (view self.old) t act }
-        ensures comes { Comes (reporting (view self.old) t (T.Taker.room taker.old) (Ok act)) result (view self.new) T.Taker.book T.Taker.took taker.old taker.new }
+    // Decides a call, performs it and reports, unless there is no place for its containers. It is a function of its own, so
+    // that a quiet report does not pay for its locals.
+    #[inline(never)]
+    fn carry_out<T: Taker>(
+        &mut self,
+        event: Event<Option<LineId>>,
+        t: u32,
+        taker: &mut T,
+    ) -> Result<Reported, Refusal>
+        requires { Known event }
+        ensures comes { Comes (reporting (view self.old) t (T.Taker.room taker.old) (decide (view self.old) event 0 t)) result (view self.new) T.Taker.book T.Taker.took taker.old taker.new }
         ensures refused { is_ok result ≡ false → (self.new ≡ self.old) × (taker.new ≡ taker.old) }
     {
-        if let Some(why) = self.no_place(&act, t) {
-            return Err(why);
-        }
-        let closed = self.closing(&act, t);
+        let act = self.decide(event, 0, t)?;
+        let closed = self.places(&act, t)?;
         self.perform(act, t);
         let due = self.report(act.due, act.report, t, taker);
         Ok(Reported { closed, due })
@@ -90,8 +94,7 @@ impl Ledger {
         if self.count_if_quiet(event, t) {
             return Ok(NOTHING_CLOSED);
         }
-        let act = self.decide(event, 0, t)?;
-        self.settle(act, t, taker)
+        self.carry_out(event, t, taker)
     }
 
     // Performs the act of a finish and hands over the Termination, unless there is no place or no intake for it.
@@ -100,10 +103,7 @@ impl Ledger {
         ensures comes { Comes (finishing (view self.old) t (T.Taker.room taker.old) (Ok act)) result (view self.new) T.Taker.book T.Taker.took taker.old taker.new }
         ensures refused { is_ok result ≡ false → (self.new ≡ self.old) × (taker.new ≡ taker.old) }
     {
-        if let Some(why) = self.no_place(&act, t) {
-            return Err(why);
-        }
-        let n = self.waiting.len() + self.closing(&act, t);
+        let n = self.waiting.len() + self.places(&act, t)?;
         if taker.intake() < n + 1 {
             return Err(Refusal::IntakeTooSmall);
         }

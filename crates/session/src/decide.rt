@@ -1,15 +1,16 @@
 // Deciding what a call does, or why it is refused. Nothing here changes a session.
-ghost use Rattle.std.specs.Prelude.{◌≡◌, ◌+◌, ◌<◌, false, IfSome, Some, None, vec_len, nat_le};
-ghost use Rattle.session.specs.Deciding.{quiet, closing, open_act, start_at, start_act, count_act, usage_act, ending, end_act};
+ghost use Rattle.std.specs.Prelude.{◌≡◌, ◌+◌, ◌<◌, false, IfSome, IfOk, Some, None, vec_len, nat_le};
+ghost use Rattle.entries.specs.declared.trigger.Trigger.TheVariants.{TariffTime};
+ghost use Rattle.entries.specs.Numbers.{trigger_number};
+ghost use Rattle.session.specs.Deciding.{quiet, closing, open_act, start_at, start_act, count_act, active_place, usage_act, ending, end_act};
 ghost use Rattle.session.specs.Deciding.{changes_full, changed_marks, changing, change_act, tick_act, intervene_act, finish_act, shelve_act, decide};
 ghost use Rattle.session.specs.Sound.{Bounded};
-ghost use Rattle.session.specs.State.{trigger, can_fire, limit_met, is_urgent, counted, over_total, open_octets, volume_sum, line_at, place_of};
+ghost use Rattle.session.specs.State.{setting, can_fire, limit_met, is_urgent, counted, over_total, open_octets, volume_sum, line_at, place_of};
 ghost use Rattle.session.specs.View.{view};
 
 use crate::answer::Refusal;
 use crate::event::Event;
 use crate::ledger::*;
-use crate::lines::*;
 use crate::state::*;
 use entries::entry::*;
 use entries::key::LineId;
@@ -33,10 +34,11 @@ fn quiet_act(edit: Edit, marks: Marks, due: bool) -> Act
     }
 }
 
-// An act of a trigger that fired: where it is urgent, a report is due.
-fn closing_act(edit: Edit, chosen: Selection, cause: u8, marks: Marks, urgent: bool) -> Act
-    ensures { result ≡ closing edit chosen cause marks urgent }
+// An act of a trigger that fired; where that is urgent, a report is due.
+fn closing_act(edit: Edit, chosen: Selection, trigger: Trigger, marks: Marks, urgent: bool) -> Act
+    ensures { result ≡ closing edit chosen (trigger_number trigger) marks urgent }
 {
+    let cause = trigger.number();
     Act {
         edit,
         chosen,
@@ -86,34 +88,37 @@ fn meets(count: u64, limit: u64) -> bool
 }
 
 impl Ledger {
-    fn trigger(&self, n: u8) -> Trigger
-        requires { n < 21 }
-        ensures { result ≡ trigger (view self.now) n }
+    fn setting(&self, trigger: Trigger) -> Setting
+        ensures { result ≡ setting (view self.now) (trigger_number trigger) }
     {
-        self.settings[n as usize]
+        self.settings[trigger.number() as usize]
     }
 
-    fn can_fire(&self, n: u8) -> bool
-        requires { n < 21 }
-        ensures { result ≡ can_fire (view self.now) n }
+    fn can_fire(&self, trigger: Trigger) -> bool
+        ensures { result ≡ can_fire (view self.now) (trigger_number trigger) }
     {
-        let trigger = self.trigger(n);
-        trigger.enabled && trigger.threshold > 0
+        let setting = self.setting(trigger);
+        setting.enabled && setting.threshold > 0
     }
 
-    pub(crate) fn is_met(&self, n: u8, measure: u64) -> bool
-        requires { n < 21 }
-        ensures { result ≡ limit_met (view self.now) n measure }
+    pub(crate) fn is_met(&self, trigger: Trigger, measure: u64) -> bool
+        ensures { result ≡ limit_met (view self.now) (trigger_number trigger) measure }
     {
-        self.can_fire(n) && self.trigger(n).threshold <= measure
+        self.can_fire(trigger) && self.setting(trigger).threshold <= measure
     }
 
-    fn is_urgent(&self, n: u8) -> bool
-        requires { n < 21 }
-        ensures { result ≡ is_urgent (view self.now) n }
+    fn is_urgent(&self, trigger: Trigger) -> bool
+        ensures { result ≡ is_urgent (view self.now) (trigger_number trigger) }
     {
-        let trigger = self.trigger(n);
-        trigger.enabled && trigger.immediate
+        let setting = self.setting(trigger);
+        setting.enabled && setting.immediate
+    }
+
+    // An act of a trigger that fired, urgent if the trigger is.
+    fn fired(&self, trigger: Trigger, chosen: Selection, edit: Edit, marks: Marks) -> Act
+        ensures { result ≡ closing edit chosen (trigger_number trigger) marks (is_urgent (view self.now) (trigger_number trigger)) }
+    {
+        closing_act(edit, chosen, trigger, marks, self.is_urgent(trigger))
     }
 
     // The index of the line with an identity.
@@ -121,7 +126,7 @@ impl Ledger {
         ensures place { result ≡ place_of (view self.now) id }
         ensures inside { IfSome result (λ i. i < vec_len self.now.lines) }
     {
-        find(&self.lines, id)
+        self.lines.iter().position(|line| line.id == id)
     }
 
     pub(crate) fn line(&self, i: usize) -> Line
@@ -129,7 +134,7 @@ impl Ledger {
         ensures read { result ≡ line_at (view self.now) i }
         ensures bounded { Bounded result }
     {
-        line_at(&self.lines, i)
+        self.lines[i]
     }
 
     fn open_act(&self, t: u32) -> Act
@@ -146,9 +151,7 @@ impl Ledger {
     fn start_act(&self, key: Option<LineId>, t: u32) -> Result<Act, Refusal>
         ensures { result ≡ start_act (view self.now) key t }
     {
-        let Some(id) = key else {
-            return Err(Refusal::OutOfRange);
-        };
+        let id = key.ok_or(Refusal::OutOfRange)?;
         match self.place(id) {
             Some(i) => self.restart(id, i, t),
             None => self.add_line(id, t),
@@ -205,39 +208,41 @@ impl Ledger {
     {
         let edit = Edit::Put(i, line);
         let volume = self.volume_sum(up, down);
-        if self.is_met(SESSION_VOLUME, volume) {
+        if self.is_met(Trigger::SessionVolume, volume) {
             let marks = Marks {
                 volume: 0,
                 ..self.marks
             };
-            let urgent = self.is_urgent(SESSION_VOLUME);
-            return closing_act(edit, Selection::Active, SESSION_VOLUME, marks, urgent);
+            return self.fired(Trigger::SessionVolume, Selection::Active, edit, marks);
         }
         let marks = Marks {
             volume,
             ..self.marks
         };
-        if self.is_met(LINE_VOLUME, open_octets(&line)) {
-            let urgent = self.is_urgent(LINE_VOLUME);
-            return closing_act(edit, Selection::One(id), LINE_VOLUME, marks, urgent);
+        if self.is_met(Trigger::LineVolume, open_octets(&line)) {
+            return self.fired(Trigger::LineVolume, Selection::One(id), edit, marks);
         }
         quiet_act(edit, marks, false)
+    }
+
+    // The line of a key and its index, where it is active.
+    fn active_place(&self, key: Option<LineId>) -> Result<(LineId, usize), Refusal>
+        ensures found { result ≡ active_place (view self.now) key }
+        ensures inside { IfOk result (λ a. a.1 < vec_len self.now.lines) }
+    {
+        let id = key.ok_or(Refusal::OutOfRange)?;
+        let i = self.place(id).ok_or(Refusal::NoActiveLine)?;
+        if !self.line(i).active {
+            return Err(Refusal::NoActiveLine);
+        }
+        Ok((id, i))
     }
 
     fn usage_act(&self, key: Option<LineId>, up: u32, down: u32) -> Result<Act, Refusal>
         ensures { result ≡ usage_act (view self.now) key up down }
     {
-        let Some(id) = key else {
-            return Err(Refusal::OutOfRange);
-        };
-        let Some(i) = self.place(id) else {
-            return Err(Refusal::NoActiveLine);
-        };
-        let line = self.line(i);
-        if !line.active {
-            return Err(Refusal::NoActiveLine);
-        }
-        let line = count(line, up, down);
+        let (id, i) = self.active_place(key)?;
+        let line = count(self.line(i), up, down);
         if is_over_total(&line) {
             return Err(Refusal::TooLarge);
         }
@@ -247,52 +252,40 @@ impl Ledger {
     fn ending(&self, id: LineId, i: usize) -> Act
         ensures { result ≡ ending (view self.now) id i }
     {
-        let urgent = self.is_urgent(LINE_END);
         Act {
             stop: Some(i),
-            ..closing_act(Edit::Keep, Selection::One(id), LINE_END, self.marks, urgent)
+            ..self.fired(Trigger::LineEnd, Selection::One(id), Edit::Keep, self.marks)
         }
     }
 
     fn end_act(&self, key: Option<LineId>) -> Result<Act, Refusal>
         ensures { result ≡ end_act (view self.now) key }
     {
-        let Some(id) = key else {
-            return Err(Refusal::OutOfRange);
-        };
-        let Some(i) = self.place(id) else {
-            return Err(Refusal::NoActiveLine);
-        };
-        if self.line(i).active {
-            Ok(self.ending(id, i))
-        } else {
-            Err(Refusal::NoActiveLine)
-        }
+        let (id, i) = self.active_place(key)?;
+        Ok(self.ending(id, i))
     }
 
     // Whether a change is the last that the limit of changes allows.
-    fn is_full(&self, n: u8) -> bool
-        requires { n < 21 }
-        ensures { result ≡ changes_full (view self.now) n }
+    fn is_full(&self, change: Trigger) -> bool
+        ensures { result ≡ changes_full (view self.now) (trigger_number change) }
     {
-        self.trigger(n).enabled
-            && self.can_fire(CONDITION_CHANGES)
+        self.setting(change).enabled
+            && self.can_fire(Trigger::ConditionChanges)
             && meets(
                 self.marks.changes,
-                self.trigger(CONDITION_CHANGES).threshold,
+                self.setting(Trigger::ConditionChanges).threshold,
             )
     }
 
     // The change count after a change: it rises where the limit can fire, and returns to 0 where it fires.
-    fn changes_after(&self, n: u8) -> u64
-        requires { n < 21 }
-        ensures { result ≡ (changed_marks (view self.now) n).changes }
+    fn changes_after(&self, change: Trigger) -> u64
+        ensures { result ≡ (changed_marks (view self.now) (trigger_number change)).changes }
     {
         let changes = self.marks.changes;
-        if !self.trigger(n).enabled || !self.can_fire(CONDITION_CHANGES) {
+        if !self.setting(change).enabled || !self.can_fire(Trigger::ConditionChanges) {
             return changes;
         }
-        let limit = self.trigger(CONDITION_CHANGES).threshold;
+        let limit = self.setting(Trigger::ConditionChanges).threshold;
         if meets(changes, limit) {
             0
         } else {
@@ -300,22 +293,20 @@ impl Ledger {
         }
     }
 
-    fn period_after(&self, n: u8) -> u16
-        requires { n ≡ 7 → self.now.marks.period < 65535 }
-        ensures { result ≡ (changed_marks (view self.now) n).period }
+    fn period_after(&self, change: Trigger) -> u16
+        requires { change ≡ TariffTime → self.now.marks.period < 65535 }
+        ensures { result ≡ (changed_marks (view self.now) (trigger_number change)).period }
     {
-        if n == TARIFF_TIME {
-            self.marks.period + 1
-        } else {
-            self.marks.period
+        match change {
+            Trigger::TariffTime => self.marks.period + 1,
+            _ => self.marks.period,
         }
     }
 
-    fn change_selection(&self, n: u8) -> Selection
-        requires { n < 21 }
-        ensures { result ≡ (changing (view self.now) n).chosen }
+    fn change_selection(&self, change: Trigger) -> Selection
+        ensures { result ≡ (changing (view self.now) (trigger_number change)).chosen }
     {
-        if self.trigger(n).enabled {
+        if self.setting(change).enabled {
             Selection::Active
         } else {
             Selection::Nothing
@@ -323,48 +314,52 @@ impl Ledger {
     }
 
     // The cause of a report at a change.
-    fn change_report(&self, n: u8) -> u8
-        requires { n < 21 }
-        ensures { result ≡ (changing (view self.now) n).report }
+    fn change_report(&self, change: Trigger) -> u8
+        ensures { result ≡ (changing (view self.now) (trigger_number change)).report }
     {
-        if self.is_full(n) {
-            return CONDITION_CHANGES;
+        if self.is_full(change) {
+            return Trigger::ConditionChanges.number();
         }
-        if self.is_urgent(n) { n } else { 0 }
+        if self.is_urgent(change) {
+            change.number()
+        } else {
+            0
+        }
     }
 
-    fn changing(&self, n: u8) -> Act
-        requires within { n < 21 }
-        requires period { n ≡ 7 → self.now.marks.period < 65535 }
-        ensures { result ≡ changing (view self.now) n }
+    fn changing(&self, change: Trigger) -> Act
+        requires { change ≡ TariffTime → self.now.marks.period < 65535 }
+        ensures { result ≡ changing (view self.now) (trigger_number change) }
     {
         let marks = Marks {
-            period: self.period_after(n),
-            changes: self.changes_after(n),
+            period: self.period_after(change),
+            changes: self.changes_after(change),
             ..self.marks
         };
-        let due = self.is_full(n) && self.is_urgent(CONDITION_CHANGES) || self.is_urgent(n);
+        let due = self.is_full(change) && self.is_urgent(Trigger::ConditionChanges)
+            || self.is_urgent(change);
         Act {
             edit: Edit::Keep,
-            chosen: self.change_selection(n),
-            cause: n,
+            chosen: self.change_selection(change),
+            cause: change.number(),
             stop: None,
             marks,
             due,
-            report: self.change_report(n),
+            report: self.change_report(change),
         }
     }
 
     fn change_act(&self, n: u8) -> Result<Act, Refusal>
         ensures { result ≡ change_act (view self.now) n }
     {
-        if n < QOS || n > SESSION_AMBR || !self.trigger(n).known {
+        let change = Trigger::try_from(n)?;
+        if !change.is_condition() || !self.setting(change).known {
             return Err(Refusal::OutOfRange);
         }
-        if n == TARIFF_TIME && self.marks.period >= LARGEST_PERIOD {
+        if change == Trigger::TariffTime && self.marks.period >= LARGEST_PERIOD {
             return Err(Refusal::TooLarge);
         }
-        Ok(self.changing(n))
+        Ok(self.changing(change))
     }
 
     fn tick_act(&self, t: u32) -> Act
@@ -372,15 +367,14 @@ impl Ledger {
     {
         let marks = self.marks;
         let open = t.saturating_sub(marks.since) as u64;
-        if self.is_met(SESSION_TIME, open) {
+        if self.is_met(Trigger::SessionTime, open) {
             let marks = Marks { since: t, ..marks };
-            let urgent = self.is_urgent(SESSION_TIME);
-            return closing_act(Edit::Keep, Selection::Active, SESSION_TIME, marks, urgent);
+            return self.fired(Trigger::SessionTime, Selection::Active, Edit::Keep, marks);
         }
-        if self.can_fire(LINE_TIME) {
-            let chosen = Selection::OpenFor(self.trigger(LINE_TIME).threshold);
-            let urgent = self.is_urgent(LINE_TIME) && count_closing(&self.lines, chosen, t) > 0;
-            return closing_act(Edit::Keep, chosen, LINE_TIME, marks, urgent);
+        if self.can_fire(Trigger::LineTime) {
+            let chosen = Selection::OpenFor(self.setting(Trigger::LineTime).threshold);
+            let urgent = self.is_urgent(Trigger::LineTime) && self.closing(chosen, t) > 0;
+            return closing_act(Edit::Keep, chosen, Trigger::LineTime, marks, urgent);
         }
         quiet_act(Edit::Keep, marks, false)
     }
@@ -388,20 +382,19 @@ impl Ledger {
     fn intervene_act(&self) -> Act
         ensures { result ≡ intervene_act (view self.now) }
     {
-        let urgent = self.is_urgent(INTERVENTION);
-        closing_act(
-            Edit::Keep,
+        self.fired(
+            Trigger::Intervention,
             Selection::Active,
-            INTERVENTION,
+            Edit::Keep,
             self.marks,
-            urgent,
         )
     }
 
     fn finish_act(&self, cause: u8) -> Result<Act, Refusal>
         ensures { result ≡ finish_act (view self.now) cause }
     {
-        if cause != SESSION_END && cause != ABORT {
+        let cause = Trigger::try_from(cause)?;
+        if !matches!(cause, Trigger::SessionEnd | Trigger::Abort) {
             return Err(Refusal::OutOfRange);
         }
         let marks = Marks {

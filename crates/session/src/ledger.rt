@@ -15,7 +15,7 @@ pub(crate) const MOST_WAITING: usize = 128;
 #[derive(Drop)]
 pub(crate) struct Ledger {
     pub(crate) id: u32,
-    pub(crate) settings: [Trigger; TRIGGERS],
+    pub(crate) settings: [Setting; TRIGGERS],
     pub(crate) marks: Marks,
     // the time of the last accepted call
     pub(crate) last: u32,

@@ -1,7 +1,9 @@
 // Making a session: all the memory that its calls will need is reserved here.
-ghost use Rattle.std.specs.Prelude.{◌≡◌, false, IfOk};
+ghost use Rattle.std.specs.Prelude.{◌≡◌, true, IfOk, IfErr, if◌then◌else◌};
+ghost use Rattle.session.specs.declared.answer.NotMade.TheVariants.{OutOfRange, NoMemory};
 ghost use Rattle.session.specs.declared.state.Phase.TheVariants.{Fresh as FreshPhase, Shelved as ShelvedPhase};
-ghost use Rattle.session.specs.Steps.{Made, before_calls};
+ghost use Rattle.session.specs.Profiles.{in_range};
+ghost use Rattle.session.specs.Steps.{Made, made, refused_why, before_calls};
 ghost use Rattle.session.specs.View.{view};
 
 use crate::answer::NotMade;
@@ -9,9 +11,10 @@ use crate::ledger::*;
 use crate::session::*;
 use crate::state::*;
 use crate::thresholds::Thresholds;
+use entries::making::Refused;
 use entries::method::Method;
 use entries::trigger::TRIGGERS;
-use std::alloc::{AllocError, Global};
+use std::alloc::Global;
 
 fn first_marks(phase: Phase) -> Marks
     ensures { result ≡ record { phase = phase; period = 0; volume = 0; changes = 0; since = 0 } }
@@ -27,9 +30,18 @@ fn first_marks(phase: Phase) -> Marks
 
 impl Ledger {
     // A fresh session with its memory reserved.
-    fn fresh(heap: Global, id: u32, settings: [Trigger; TRIGGERS]) -> Result<Ledger, AllocError>
-        ensures { IfOk result (λ g. view g ≡ before_calls id settings FreshPhase) }
+    fn fresh(
+        heap: Global,
+        id: u32,
+        thresholds: &Thresholds,
+        settings: [Setting; TRIGGERS],
+    ) -> Result<Ledger, NotMade>
+        ensures fresh { IfOk result (λ g. (in_range thresholds.now ≡ true) × (view g ≡ before_calls id settings FreshPhase)) }
+        ensures refused { IfErr result (λ why. why ≡ (if in_range thresholds.now then NoMemory else OutOfRange)) }
     {
+        if !thresholds.are_in_range() {
+            return Err(NotMade::OutOfRange);
+        }
         let lines = Vec::with_capacity(heap, MOST_LINES)?;
         let waiting = Vec::with_capacity(heap, MOST_WAITING)?;
         Ok(Ledger {
@@ -45,7 +57,7 @@ impl Ledger {
     }
 
     // A session that accepts no call, and needs no memory.
-    fn shelved(heap: Global, id: u32, settings: [Trigger; TRIGGERS]) -> Ledger
+    fn shelved(heap: Global, id: u32, settings: [Setting; TRIGGERS]) -> Ledger
         ensures { view result ≡ before_calls id settings ShelvedPhase }
     {
         Ledger {
@@ -62,30 +74,26 @@ impl Ledger {
 }
 
 impl<M: Method> Session<M> {
-    // A fresh session with a charging id, or a shelved one where a threshold is too large or there is no memory.
-    pub fn new(heap: Global, method: M, id: u32, thresholds: Thresholds) -> Making<M>
-        ensures { Made M.Method.column id thresholds result.refused (view result.session.ledger) }
+    // A fresh session with a charging id; or why it is not made, where a threshold is too large or there is no memory, and a
+    // shelved session.
+    pub fn new(
+        heap: Global,
+        method: M,
+        id: u32,
+        thresholds: Thresholds,
+    ) -> Result<Session<M>, Refused<NotMade, Session<M>>>
+        ensures { Made M.Method.column id thresholds (refused_why result) (view (made result).ledger) }
     {
         let settings = thresholds.settings(&method);
-        if !thresholds.are_in_range() {
-            let ledger = Ledger::shelved(heap, id, settings);
-            return Making {
-                session: Session { method, ledger },
-                refused: Some(NotMade::OutOfRange),
-            };
-        }
-        match Ledger::fresh(heap, id, settings) {
-            Ok(ledger) => Making {
-                session: Session { method, ledger },
-                refused: None,
-            },
-            Err(_) => Making {
-                session: Session {
-                    method,
-                    ledger: Ledger::shelved(heap, id, settings),
-                },
-                refused: Some(NotMade::NoMemory),
-            },
+        match Ledger::fresh(heap, id, &thresholds, settings) {
+            Ok(ledger) => Ok(Session { method, ledger }),
+            Err(why) => {
+                let ledger = Ledger::shelved(heap, id, settings);
+                Err(Refused {
+                    why,
+                    left: Session { method, ledger },
+                })
+            }
         }
     }
 }

@@ -1,6 +1,6 @@
 // The profile of a charging function, applied to the triggers of a method.
 ghost use Rattle.std.specs.Prelude.{◌≡◌, ◌-◌, length};
-ghost use Rattle.session.specs.Profiles.{permitted, overridden, applied_one, applied, applied_count};
+ghost use Rattle.session.specs.Profiles.{permitted, change_of, overridden, applied_one, applied, applied_count};
 
 use crate::answer::Opened;
 use crate::state::*;
@@ -9,14 +9,12 @@ use entries::method::*;
 use entries::taker::*;
 use entries::trigger::*;
 
-// The parts of an override: 0 leaves a part as it is, and these are the other values.
-const LEAVE: u8 = 0;
-
+// The switch and the category of an override: 0 leaves what it was, these turn it on, and the other value turns it off.
 const ENABLE: u8 = 1;
 
-const DISABLE: u8 = 2;
-
 const IMMEDIATE: u8 = 2;
+
+const LARGEST_PART: u8 = 2;
 
 // Whether the trigger table permits each part of an override, and its values are in range.
 fn is_permitted(rule: Option<Rule>, o: Override) -> bool
@@ -25,41 +23,50 @@ fn is_permitted(rule: Option<Rule>, o: Override) -> bool
     let Some(rule) = rule else {
         return false;
     };
-    let is_limit = o.trigger >= SESSION_TIME && o.trigger <= LINE_VOLUME;
-    o.trigger <= ABORT
-        && o.switch <= DISABLE
-        && o.category <= IMMEDIATE
+    let is_limit = Trigger::try_from(o.trigger).is_ok_and(|trigger| trigger.is_limit());
+    o.trigger <= Trigger::Abort.number()
+        && o.switch <= LARGEST_PART
+        && o.category <= LARGEST_PART
         && o.threshold <= MOST_OCTETS
-        && (o.switch == LEAVE || rule.switched)
-        && (o.category == LEAVE || rule.recategorised)
+        && (o.switch == 0 || rule.switched)
+        && (o.category == 0 || rule.recategorised)
         && (o.threshold == 0 || is_limit)
 }
 
-fn override_trigger(trigger: Trigger, o: Override) -> Trigger
-    ensures { result ≡ overridden trigger o }
+// What an override changes in a setting; a part of none stays as it is.
+#[derive(Clone, Copy)]
+struct Change {
+    enabled: Option<bool>,
+    immediate: Option<bool>,
+    threshold: Option<u64>,
+}
+
+impl From<Override> for Change {
+    ghost from_gives = { λ o c. c ≡ change_of o };
+
+    fn from(o: Override) -> Change {
+        Change {
+            enabled: (o.switch > 0).then_some(o.switch == ENABLE),
+            immediate: (o.category > 0).then_some(o.category == IMMEDIATE),
+            threshold: (o.threshold > 0).then_some(o.threshold),
+        }
+    }
+}
+
+fn override_setting(setting: Setting, o: Override) -> Setting
+    ensures { result ≡ overridden setting o }
 {
-    Trigger {
-        known: trigger.known,
-        enabled: if o.switch == LEAVE {
-            trigger.enabled
-        } else {
-            o.switch == ENABLE
-        },
-        immediate: if o.category == LEAVE {
-            trigger.immediate
-        } else {
-            o.category == IMMEDIATE
-        },
-        threshold: if o.threshold == 0 {
-            trigger.threshold
-        } else {
-            o.threshold
-        },
+    let change = Change::from(o);
+    Setting {
+        known: setting.known,
+        enabled: change.enabled.unwrap_or(setting.enabled),
+        immediate: change.immediate.unwrap_or(setting.immediate),
+        threshold: change.threshold.unwrap_or(setting.threshold),
     }
 }
 
 // Applies an override, or passes it over.
-fn apply_one(settings: &mut [Trigger; TRIGGERS], rule: Option<Rule>, o: Override) -> bool
+fn apply_one(settings: &mut [Setting; TRIGGERS], rule: Option<Rule>, o: Override) -> bool
     ensures answer { result ≡ permitted rule o }
     ensures after { settings.new ≡ applied_one rule o settings.old }
 {
@@ -67,14 +74,14 @@ fn apply_one(settings: &mut [Trigger; TRIGGERS], rule: Option<Rule>, o: Override
         return false;
     }
     let n = o.trigger as usize;
-    settings[n] = override_trigger(settings[n], o);
+    settings[n] = override_setting(settings[n], o);
     true
 }
 
 pub(crate) fn apply<M: Method, F: ChargingFunction>(
     method: &M,
     function: &F,
-    settings: &mut [Trigger; TRIGGERS],
+    settings: &mut [Setting; TRIGGERS],
 ) -> Opened
     ensures after { settings.new ≡ applied M.Method.column (F.ChargingFunction.profile function.now) settings.old }
     ensures applied { result.applied ≡ applied_count M.Method.column (F.ChargingFunction.profile function.now) }
@@ -82,12 +89,10 @@ pub(crate) fn apply<M: Method, F: ChargingFunction>(
 {
     let mut applied: usize = 0;
     let mut seen: usize = 0;
-    for i in 0..MOST_OVERRIDES {
-        if let Some(o) = function.override_at(i) {
-            seen += 1;
-            if apply_one(settings, method.rule(o.trigger), o) {
-                applied += 1;
-            }
+    while let Some(o) = function.override_at(seen) {
+        seen += 1;
+        if apply_one(settings, method.rule(o.trigger), o) {
+            applied += 1;
         }
     }
     Opened {

@@ -31,8 +31,8 @@ impl Ledger {
         }
         let line = count(line, up, down);
         if is_over_total(&line)
-            || self.is_met(SESSION_VOLUME, self.volume_sum(up, down))
-            || self.is_met(LINE_VOLUME, open_octets(&line))
+            || self.is_met(Trigger::SessionVolume, self.volume_sum(up, down))
+            || self.is_met(Trigger::LineVolume, open_octets(&line))
         {
             return None;
         }

@@ -26,13 +26,6 @@ pub struct Session<M: Method> {
     pub(crate) ledger: Ledger,
 }
 
-// A session as made and, where its making is refused, why; it is then shelved.
-#[derive(Drop)]
-pub struct Making<M: Method> {
-    pub session: Session<M>,
-    pub refused: Option<NotMade>,
-}
-
 // A call with the line that its key names, or none where the key is out of range.
 fn see<K: LineKey>(event: Event<K>) -> Event<Option<LineId>>
     ensures seen { result ≡ seen_event K.LineKey.coding event }
@@ -59,36 +52,6 @@ impl<M: Method> Session<M> {
     {
         self.ledger.last
     }
-}
-
-// The calls by their steps.
-impl<M: Method> Session<M> {
-    fn do_open<F: ChargingFunction>(
-        &mut self,
-        t: u32,
-        function: &mut F,
-    ) -> Result<(Opened, Slip), Refusal>
-        ensures handed { slip_handed self.old.ledger.id result }
-        ensures unspent { IfOk result (λ a. a.1.spent ≡ false) }
-        ensures comes { Comes (opening M.Method.column (F.ChargingFunction.profile function.old) (view self.old.ledger) t (F.Taker.room function.old) (decide (view self.old.ledger) Opening 0 t)) (slip_aside result) (view self.new.ledger) F.Taker.book F.Taker.took function.old function.new }
-        ensures refused { is_ok result ≡ false → (self.new ≡ self.old) × (function.new ≡ function.old) }
-    {
-        let opened = self.ledger.open(&self.method, t, function)?;
-        let id = self.ledger.id;
-        Ok((opened, Slip::new(id)))
-    }
-
-    fn do_call<T: Taker>(
-        &mut self,
-        event: Event<M::Key>,
-        t: u32,
-        taker: &mut T,
-    ) -> Result<Reported, Refusal>
-        ensures comes { Comes (reporting (view self.old.ledger) t (T.Taker.room taker.old) (decide (view self.old.ledger) (seen_event M.Key.LineKey.coding event) 0 t)) result (view self.new.ledger) T.Taker.book T.Taker.took taker.old taker.new }
-        ensures refused { is_ok result ≡ false → (self.new ≡ self.old) × (taker.new ≡ taker.old) }
-    {
-        self.ledger.call(see(event), t, taker)
-    }
 
     // A call that may report.
     fn call<T: Taker>(
@@ -102,42 +65,7 @@ impl<M: Method> Session<M> {
         ensures lends { Lends (step M.Method.column (view self.old.ledger) (seen M.Key.LineKey.coding (fed event 0 t (T.Taker.room taker.old) []))).added T.Taker.book T.Taker.took taker.old taker.new }
         ensures refused { is_ok result ≡ false → (self.new ≡ self.old) × (taker.new ≡ taker.old) }
     {
-        self.do_call(event, t, taker)
-    }
-
-    fn do_finish<T: Taker>(
-        &mut self,
-        cause: u8,
-        t: u32,
-        slip: Slip,
-        taker: &mut T,
-    ) -> Result<usize, (Refusal, Slip)>
-        ensures back { IfErr result (λ e. e.1 ≡ slip) }
-        ensures comes { Comes (finishing (view self.old.ledger) t (T.Taker.room taker.old) (decide (view self.old.ledger) (Finishing cause) slip.id t)) (without_slip result) (view self.new.ledger) T.Taker.book T.Taker.took taker.old taker.new }
-        ensures refused { is_ok result ≡ false → (self.new ≡ self.old) × (taker.new ≡ taker.old) }
-    {
-        match self.ledger.finish(cause, slip.id, t, taker) {
-            Ok(n) => {
-                slip.spend();
-                Ok(n)
-            }
-            Err(why) => Err((why, slip)),
-        }
-    }
-
-    fn do_shelve(&mut self, t: u32, slip: Slip) -> Result<usize, (Refusal, Slip)>
-        ensures back { IfErr result (λ e. e.1 ≡ slip) }
-        ensures answer { without_slip result ≡ (shelving (view self.old.ledger) t (decide (view self.old.ledger) Shelving slip.id t)).answer }
-        ensures after { view self.new.ledger ≡ (shelving (view self.old.ledger) t (decide (view self.old.ledger) Shelving slip.id t)).state }
-        ensures refused { is_ok result ≡ false → self.new ≡ self.old }
-    {
-        match self.ledger.shelve(slip.id, t) {
-            Ok(n) => {
-                slip.spend();
-                Ok(n)
-            }
-            Err(why) => Err((why, slip)),
-        }
+        self.ledger.call(see(event), t, taker)
     }
 }
 
@@ -156,7 +84,8 @@ impl<M: Method> Session<M> {
         ensures unspent { IfOk result (λ a. a.1.spent ≡ false) }
         ensures refused { is_ok result ≡ false → (self.new ≡ self.old) × (function.new ≡ function.old) }
     {
-        self.do_open(t, function)
+        let opened = self.ledger.open(&self.method, t, function)?;
+        Ok((opened, Slip::new(self.ledger.id)))
     }
 
     // The line of the key becomes active from `t`.
@@ -247,7 +176,8 @@ impl<M: Method> Session<M> {
         ensures back { IfErr result (λ e. e.1 ≡ slip) }
         ensures refused { is_ok result ≡ false → (self.new ≡ self.old) × (taker.new ≡ taker.old) }
     {
-        self.do_finish(cause, t, slip, taker)
+        let answer = self.ledger.finish(cause, slip.id, t, taker);
+        slip.settle(answer)
     }
 
     // Shelves the session, which keeps its containers and open counts. A refusal gives the slip back.
@@ -257,6 +187,7 @@ impl<M: Method> Session<M> {
         ensures back { IfErr result (λ e. e.1 ≡ slip) }
         ensures refused { is_ok result ≡ false → self.new ≡ self.old }
     {
-        self.do_shelve(t, slip)
+        let answer = self.ledger.shelve(slip.id, t);
+        slip.settle(answer)
     }
 }

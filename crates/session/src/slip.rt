@@ -1,5 +1,8 @@
 // The slip that an opening hands out.
-ghost use Rattle.std.specs.Prelude.{◌≡◌, true, false};
+ghost use Rattle.std.specs.Prelude.{◌≡◌, true, false, is_ok, IfErr};
+ghost use Rattle.session.specs.Slips.{without_slip};
+
+use crate::answer::Refusal;
 
 // A slip is owed back to a finish or a shelving. It cannot be copied, and let go only once it is taken back.
 pub struct Slip {
@@ -26,8 +29,23 @@ impl Slip {
     }
 
     // Takes the slip back.
-    pub(crate) fn spend(self) {
+    fn spend(self) {
         let mut slip = self;
         slip.spent = true;
+    }
+
+    // Takes the slip back where the call was accepted; a refusal gives it back.
+    pub(crate) fn settle(self, answer: Result<usize, Refusal>) -> Result<usize, (Refusal, Slip)>
+        ensures same { without_slip result ≡ answer }
+        ensures alike { is_ok result ≡ is_ok answer }
+        ensures back { IfErr result (λ e. e.1 ≡ self) }
+    {
+        match answer {
+            Ok(n) => {
+                self.spend();
+                Ok(n)
+            }
+            Err(why) => Err((why, self)),
+        }
     }
 }

@@ -24,7 +24,7 @@ pub struct Line {
 
 // A trigger as set: whether the method has it, whether it is enabled, its category and its threshold.
 #[derive(Clone, Copy)]
-pub struct Trigger {
+pub struct Setting {
     pub known: bool,
     pub enabled: bool,
     pub immediate: bool,
@@ -58,6 +58,15 @@ pub enum Selection {
     One(LineId),
     // active lines that are open for so long
     OpenFor(u64),
+}
+
+// A closing of lines into containers: which lines, with which cause, in which tariff period, and when.
+#[derive(Clone, Copy)]
+pub struct Closing {
+    pub chosen: Selection,
+    pub cause: u8,
+    pub period: u16,
+    pub time: u32,
 }
 
 // What an accepted call does: the edit, the lines that close and with which cause, the line that then stops, the marks

@@ -1,11 +1,14 @@
-// The thresholds of the limits, and the triggers of a session as made.
-ghost use Rattle.std.specs.Prelude.{◌≡◌};
-ghost use Rattle.session.specs.Profiles.{threshold_of, in_range, trigger_made, settings_made};
+// The thresholds of the limits, and the settings of a session as made.
+ghost use Rattle.std.specs.Prelude.{◌≡◌, cond, Some, None};
+ghost use Rattle.entries.specs.Numbers.{trigger_number};
+ghost use Rattle.entries.specs.Triggers.{is_limit};
+ghost use Rattle.session.specs.Profiles.{threshold_of, in_range, setting_made, settings_made};
 
 use crate::state::*;
 use entries::entry::MOST_OCTETS;
 use entries::method::*;
 use entries::trigger::*;
+use std::array;
 
 // The thresholds of the limits; 0 is no limit.
 #[derive(Clone, Copy)]
@@ -30,7 +33,7 @@ pub const NO_LIMITS: Thresholds = Thresholds {
     line_volume: 0,
 };
 
-const NO_TRIGGER: Trigger = Trigger {
+const NO_SETTING: Setting = Setting {
     known: false,
     enabled: false,
     immediate: false,
@@ -48,51 +51,44 @@ impl Thresholds {
             && self.line_volume <= MOST_OCTETS
     }
 
-    // The threshold of a limit.
-    fn of(&self, trigger: u8) -> u64
-        ensures { result ≡ threshold_of self.now trigger }
+    // The threshold of a limit; none of another trigger.
+    fn of(&self, trigger: Trigger) -> Option<u64>
+        ensures { result ≡ cond (is_limit (trigger_number trigger)) (Some (threshold_of self.now (trigger_number trigger))) None }
     {
         match trigger {
-            SESSION_TIME => self.session_time,
-            SESSION_VOLUME => self.session_volume,
-            CONDITION_CHANGES => self.changes,
-            LINE_TIME => self.line_time,
-            _ => self.line_volume,
+            Trigger::SessionTime => Some(self.session_time),
+            Trigger::SessionVolume => Some(self.session_volume),
+            Trigger::ConditionChanges => Some(self.changes),
+            Trigger::LineTime => Some(self.line_time),
+            Trigger::LineVolume => Some(self.line_volume),
+            _ => None,
         }
     }
 
-    fn make_trigger(&self, rule: Option<Rule>, n: u8) -> Trigger
-        ensures { result ≡ trigger_made rule self.now n }
+    fn make_setting(&self, rule: Option<Rule>, n: u8) -> Setting
+        ensures { result ≡ setting_made rule self.now n }
     {
         let Some(rule) = rule else {
-            return NO_TRIGGER;
+            return NO_SETTING;
         };
-        if n >= SESSION_TIME && n <= LINE_VOLUME {
-            let threshold = self.of(n);
-            return Trigger {
-                known: true,
-                enabled: threshold > 0,
-                immediate: rule.immediate,
-                threshold,
-            };
-        }
-        Trigger {
+        let limit = Trigger::try_from(n)
+            .ok()
+            .and_then(|trigger| self.of(trigger));
+        Setting {
             known: true,
-            enabled: true,
+            enabled: limit.is_none_or(|threshold| threshold > 0),
             immediate: rule.immediate,
-            threshold: 0,
+            threshold: limit.unwrap_or(0),
         }
     }
 
-    // The triggers of a method, by their numbers.
-    pub(crate) fn settings<M: Method>(&self, method: &M) -> [Trigger; TRIGGERS]
+    // The settings of a method, by the numbers of the triggers.
+    pub(crate) fn settings<M: Method>(&self, method: &M) -> [Setting; TRIGGERS]
         ensures { result ≡ settings_made M.Method.column self.now }
     {
-        let mut settings = [NO_TRIGGER; TRIGGERS];
-        for i in 0..TRIGGERS {
+        array::from_fn(|i| {
             let n = i as u8;
-            settings[i] = self.make_trigger(method.rule(n), n);
-        }
-        settings
+            self.make_setting(method.rule(n), n)
+        })
     }
 }

@@ -1,18 +1,13 @@
-use Rattle.std.proofs.Common.{◌≡◌, get_or, vec_items, sym, ap, ◌∙◌, subst, arith}
+use Rattle.std.proofs.Common.{◌<◌, length, vec_items, sym, subst, arith}
+use Rattle.std.proofs.lemmas.List.{get_or_read}
 use Rattle.session.specs.Sound.{Bounded}
-use Rattle.session.specs.State.{line_at, no_line}
-use Rattle.session.specs.View.{view}
+use Rattle.session.specs.State.{no_line}
 use Rattle.session.proofs.Bounds.{line_facts, sound_at}
 use Rattle.session.proofs.ledger.Ledger.line.Goals as goal
 
-pub returns : goal.returns
-returns c =
-    let e : c.line_at.result ≡ line_at (view c.args.self.now) c.args.i =
-    c.line_at.ensures ∙ ap (λ ls. get_or ls c.args.i no_line) c.deref.ensures.value in
-    record {
-      read = e;
-      bounded =
-          subst Bounded (sym e)
-          (line_facts c.args.self.now.last _
-          (sound_at c.args.self.now.last (vec_items c.args.self.now.lines) c.args.i (omega (arith, c.args.self.now.lines.ok.0, c.requires)) c.args.self.now.sound));
-    }
+pub returns-clause-bounded : goal.returns-clause-bounded
+returns-clause-bounded c =
+    let ledger = c.args.self.now in
+    let ls = vec_items ledger.lines in
+    let inside : c.args.i < length ls = omega (arith, ledger.lines.ok.0, c.requires) in
+    subst Bounded (sym (get_or_read ls _ _ inside c.index.ensures no_line)) (line_facts ledger.last _ (sound_at ledger.last ls c.args.i inside ledger.sound))

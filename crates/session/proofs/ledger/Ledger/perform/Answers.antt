@@ -12,7 +12,7 @@ use Rattle.session.proofs.ledger.Ledger.perform.Goals as goal
 pub stop_line-requires : goal.stop_line-requires
 stop_line-requires c = record {
   within = subst (StopWithin c.args.act.stop)
-      (sym (c.close_all-closed.ensures.after
+      (sym (c.close_lines-closed.ensures.after
       ∙ ap (closed_lines (closes c.args.act.chosen c.args.t) c.args.t) c.edit_lines.ensures.after))
       (stop_within (view c.args.self.now) c.args.act c.args.t c.requires.fit);
 }
@@ -25,18 +25,18 @@ invariant_of-self c =
     let sane = acted_sane s c.args.act c.args.t c.requires.fit in
     let lines : vec_items c.stop_line.new.lines ≡ (acted s c.args.act c.args.t).lines =
     c.stop_line.ensures.after
-    ∙ ap (stopped_at c.args.act.stop) (c.close_all-closed.ensures.after ∙ ap (closed_lines p c.args.t) c.edit_lines.ensures.after) in
-    let waiting : vec_items c.close_all-closed.new.waiting ≡ (acted s c.args.act c.args.t).waiting =
-    c.close_all-closed.ensures.appended
+    ∙ ap (stopped_at c.args.act.stop) (c.close_lines-closed.ensures.after ∙ ap (closed_lines p c.args.t) c.edit_lines.ensures.after) in
+    let waiting : vec_items c.close_lines-closed.new.waiting ≡ (acted s c.args.act c.args.t).waiting =
+    c.close_lines-closed.ensures.appended
     ∙ ap (λ ls. s.waiting ++ closings p c.args.act.cause s.marks.period c.args.t s.closed ls) c.edit_lines.ensures.after in
     let line-room = c.args.self.now.line_room c.requires.fit.alive in
     let waiting-room = c.args.self.now.waiting_room c.requires.fit.alive in
     record {
       line_room = λ _. omega (arith, line-room);
       waiting_room = λ _. omega (arith, waiting-room);
-      numbered = omega (arith, c.close_all-closed.ensures.count, k, c.requires.fit.count, c.requires.numbers);
+      numbered = omega (arith, c.close_lines-closed.ensures.count, k, c.requires.fit.count, c.requires.numbers);
       few = omega arith;
-      short = omega (arith, c.close_all-closed.ensures.longer, k, c.requires.fit.count, c.requires.space, c.args.self.now.waiting.ok.0);
+      short = omega (arith, c.close_lines-closed.ensures.longer, k, c.requires.fit.count, c.requires.space, c.args.self.now.waiting.ok.0);
       sound = ap (sound_lines c.args.t) lines ∙ sane.sound;
       formed = ap containers_formed waiting ∙ acted_formed s c.args.act c.args.t c.requires.fit c.args.self.now.formed;
       counted = omega (arith, ap volume_of_all lines, sane.counted);
@@ -49,9 +49,9 @@ returns c =
     let e = c.edit_lines.ensures.after in
     record {
       after = acted_is s c.args.act c.args.t _ _ _
-          (c.close_all-closed.ensures.count ∙ ap (λ ls. s.closed + closing_count p ls) e)
-          (c.stop_line.ensures.after ∙ ap (stopped_at c.args.act.stop) (c.close_all-closed.ensures.after ∙ ap (closed_lines p c.args.t) e))
-          (c.close_all-closed.ensures.appended
+          (c.close_lines-closed.ensures.count ∙ ap (λ ls. s.closed + closing_count p ls) e)
+          (c.stop_line.ensures.after ∙ ap (stopped_at c.args.act.stop) (c.close_lines-closed.ensures.after ∙ ap (closed_lines p c.args.t) e))
+          (c.close_lines-closed.ensures.appended
           ∙ ap (λ ls. s.waiting ++ closings p c.args.act.cause s.marks.period c.args.t s.closed ls) e);
-      longer = omega (arith, c.close_all-closed.ensures.longer, ap (closing_count p) e, c.requires.fit.count, c.args.self.now.waiting.ok.0, c.close_all-closed.new.waiting.ok.0);
+      longer = omega (arith, c.close_lines-closed.ensures.longer, ap (closing_count p) e, c.requires.fit.count, c.args.self.now.waiting.ok.0, c.close_lines-closed.new.waiting.ok.0);
     }

@@ -1,4 +1,4 @@
-use Rattle.std.proofs.Common.{[], ap}
+use Rattle.std.proofs.Common.{rules, [], sym, ap, ◌∙◌}
 use Rattle.session.specs.declared.event.Event.TheVariants.{Shelve}
 use Rattle.session.specs.Answers.{told_shelving}
 use Rattle.session.specs.Deciding.{decide}
@@ -9,12 +9,12 @@ use Rattle.session.proofs.session.Session.shelve.Goals as goal
 
 pub returns : goal.returns
 returns g c =
-    let e = c.do_shelve.ensures in
+    let e = c.shelve-answer.ensures in
     let s = view c.args.self.now.ledger in
     record {
       does = does g.M.Key.LineKey.coding g.met.M.Key.LineKey.distinct g.met.M.Key.LineKey.kinds g.M.Method.column g.met.M.Method.tariff
-          s _ (fed Shelve c.args.slip.id c.args.t 0 []) _ (ap told_shelving e.answer) e.after;
+          s _ (fed Shelve c.args.slip.id c.args.t 0 []) _ (ap told_shelving (c.settle.ensures.same ∙ e.answer)) e.after;
       adds = shelving_adds s c.args.t (decide s Shelve c.args.slip.id c.args.t);
-      back = e.back;
-      refused = e.refused;
+      back = c.settle.ensures.back;
+      refused = λ h. let r = e.refused (sym c.settle.ensures.alike ∙ h) in search rules;
     }
