@@ -4,19 +4,20 @@ ghost use Rattle.journal.specs.Faults.{fault_number, fault_place, past_end_numbe
 
 use crate::layout::*;
 use entries::refusal::Numbered;
+use thiserror::Error;
 
 // What is wrong with a journal's bytes.
-#[derive(Clone, Copy, PartialEq, Eq, Debug)]
+#[derive(Clone, Copy, PartialEq, Eq, Debug, Error)]
 pub enum Fault {
-    // too few or too many bytes, with their number
+    #[error("too few or too many bytes: {0}")]
     Length(usize),
-    // the free offset is not that of as many entries, or past the end
+    #[error("the free offset is not that of as many entries, or past the end")]
     FreeOffset,
-    // the spare number is not 0
+    #[error("the spare number is not 0")]
     Spare,
-    // an entry breaks the form of a request, with its offset
+    #[error("the entry at offset {0} breaks the form of a request")]
     Form(usize),
-    // the entries are more or fewer requests than the header says
+    #[error("the entries are more or fewer requests than the header says")]
     RequestCount,
 }
 
@@ -48,7 +49,8 @@ impl Fault {
 }
 
 // An index past the last entry.
-#[derive(Clone, Copy, PartialEq, Eq, Debug)]
+#[derive(Clone, Copy, PartialEq, Eq, Debug, Error)]
+#[error("the index is past the last entry")]
 pub struct PastEnd;
 
 impl Numbered for PastEnd {
