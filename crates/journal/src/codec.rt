@@ -1,4 +1,4 @@
-// Parts of a list of bytes: a number, an entry or a header.
+// Parts of a list of bytes, such as a number or an entry.
 ghost use Rattle.std.specs.Prelude.{◌≡◌, ◌+◌, ◌≤◌, length, take, drop};
 ghost use Rattle.entries.specs.Written.{written};
 

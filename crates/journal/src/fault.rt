@@ -15,7 +15,7 @@ pub enum Fault {
     FreeOffset,
     #[error("the spare number is not 0")]
     Spare,
-    #[error("the entry at {0} breaks the form of a request")]
+    #[error("the entry at offset {0} breaks the form of a request")]
     Form(usize),
     #[error("the entries are more or fewer requests than the header says")]
     RequestCount,
@@ -50,7 +50,7 @@ impl Fault {
 
 // An index past the last entry.
 #[derive(Clone, Copy, PartialEq, Eq, Debug, Error)]
-#[error("an index past the last entry")]
+#[error("the index is past the last entry")]
 pub struct PastEnd;
 
 impl Numbered for PastEnd {

@@ -34,6 +34,7 @@ impl<'a> Journal<'a> {
     ) -> Result<Journal<'a>, Refused<Unmade, &'a mut [u8]>>
         ensures { JournalMade bytes.old overrides.now result }
     {
+        // not map_err: its closure would keep the bytes from the making
         let profile = match lend(overrides, bytes.len(), HEADER_SIZE, MOST_BYTES) {
             Ok(profile) => profile,
             Err(why) => return Err(Refused { why, left: bytes }),

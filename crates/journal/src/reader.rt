@@ -11,7 +11,8 @@ use crate::layout::*;
 use entries::entry::*;
 use entries::sequence::*;
 
-// How many requests the entries are, or the first entry at which they stop being requests.
+// How many requests the entries are, or the first entry at which they stop being requests. The loop is that of
+// count_requests: one for both would take a closure that reads an entry, and is no plainer.
 fn check_entries(entries: &[[u8; ENTRY_SIZE]]) -> Result<usize, Fault>
     requires { length entries.now < 2 ^ 33 }
     ensures { result ≡ placed (requests_in (map entry_of entries.now)) }
