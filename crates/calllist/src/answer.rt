@@ -1,54 +1,80 @@
 // Answers as they are printed.
 ghost use Rattle.std.specs.Prelude.{◌≡◌};
-ghost use Rattle.calllist.specs.Shown.{session_made, book_made, is_accepted};
+ghost use Rattle.calllist.specs.Shown.{session_made, book_made, rejection_number, rejection_place};
 
 use entries::making::Unmade;
 use session::answer::*;
 use std::fmt;
 
+// What is accepted.
 #[derive(Clone, Copy)]
 pub enum Answer {
     Made,
-    Refused(u8),
-    RefusedAt(u8, usize),
     Opened(Opened),
     Reported(Reported),
     Sent(usize),
     Waiting(usize),
+}
+
+// What is not: a session's making, a book's, or a call, which may also lack its slip.
+#[derive(Clone, Copy)]
+pub enum Rejection {
+    Session(NotMade),
+    Book(Unmade),
+    Call(Refusal),
     NoSlip,
 }
 
+impl From<Refusal> for Rejection {
+    ghost use Rattle.calllist.specs.declared.answer.Rejection.TheVariants.{Call};
+
+    ghost from_gives = { λ why r. r ≡ Call why };
+
+    fn from(why: Refusal) -> Rejection {
+        Rejection::Call(why)
+    }
+}
+
 impl Answer {
-    // Of a session's making.
-    pub(crate) fn of_session(refused: Option<NotMade>) -> Answer
+    pub(crate) fn of_session(refused: Option<NotMade>) -> Result<Answer, Rejection>
         ensures { result ≡ session_made refused }
     {
         match refused {
-            None => Answer::Made,
-            Some(why) => Answer::Refused(why.number()),
+            None => Ok(Answer::Made),
+            Some(why) => Err(Rejection::Session(why)),
         }
     }
 
-    // Whether the call was accepted.
-    pub(crate) fn is_accepted(&self) -> bool
-        ensures { result ≡ is_accepted self.now }
-    {
-        !matches!(
-            self,
-            Answer::Refused(_) | Answer::RefusedAt(_, _) | Answer::NoSlip
-        )
-    }
-
-    // Of a book's making.
-    pub(crate) fn of_book(refused: Option<Unmade>) -> Answer
+    pub(crate) fn of_book(refused: Option<Unmade>) -> Result<Answer, Rejection>
         ensures { result ≡ book_made refused }
     {
-        let Some(why) = refused else {
-            return Answer::Made;
-        };
-        match why.place() {
-            Some(place) => Answer::RefusedAt(why.number(), place),
-            None => Answer::Refused(why.number()),
+        match refused {
+            None => Ok(Answer::Made),
+            Some(why) => Err(Rejection::Book(why)),
+        }
+    }
+}
+
+impl Rejection {
+    // The number of a refusal.
+    fn number(self) -> Option<u8>
+        ensures { result ≡ rejection_number self }
+    {
+        match self {
+            Rejection::Session(why) => Some(why.number()),
+            Rejection::Book(why) => Some(why.number()),
+            Rejection::Call(why) => Some(why.number()),
+            Rejection::NoSlip => None,
+        }
+    }
+
+    // Its place, where it has one.
+    fn place(self) -> Option<usize>
+        ensures { result ≡ rejection_place self }
+    {
+        match self {
+            Rejection::Book(why) => why.place(),
+            _ => None,
         }
     }
 }
@@ -57,20 +83,26 @@ impl fmt::Display for Answer {
     fn fmt<W: fmt::Write>(&self, f: &mut fmt::Formatter<W>) -> fmt::Result {
         match self {
             Answer::Made => write!(f, "made"),
-            Answer::Refused(n) => write!(f, "refused {n}"),
-            Answer::RefusedAt(n, place) => write!(f, "refused {n} {place}"),
-            Answer::Opened(o) => write!(f, "applied {} passed {}", o.applied, o.passed),
-            Answer::Reported(r) => {
-                let n = r.closed;
-                match r.due {
-                    Due::Nothing => write!(f, "closed {n} nothing"),
-                    Due::Sent(sent) => write!(f, "closed {n} sent {sent}"),
-                    Due::Held(held) => write!(f, "closed {n} held {held}"),
-                }
+            Answer::Opened(Opened { applied, passed }) => {
+                write!(f, "applied {applied} passed {passed}")
             }
+            Answer::Reported(Reported { closed, due }) => match due {
+                Due::Nothing => write!(f, "closed {closed} nothing"),
+                Due::Sent(sent) => write!(f, "closed {closed} sent {sent}"),
+                Due::Held(held) => write!(f, "closed {closed} held {held}"),
+            },
             Answer::Sent(n) => write!(f, "sent {n}"),
             Answer::Waiting(n) => write!(f, "waiting {n}"),
-            Answer::NoSlip => write!(f, "no slip"),
+        }
+    }
+}
+
+impl fmt::Display for Rejection {
+    fn fmt<W: fmt::Write>(&self, f: &mut fmt::Formatter<W>) -> fmt::Result {
+        match (self.number(), self.place()) {
+            (None, _) => write!(f, "no slip"),
+            (Some(n), None) => write!(f, "refused {n}"),
+            (Some(n), Some(place)) => write!(f, "refused {n} {place}"),
         }
     }
 }
