@@ -17,8 +17,8 @@ pub keeps : {K : Type 0} (x : Coding K) (column : Column) (s : State) (e : Event
     → Does x column s (fed e 0 t intake []) answer s' → may_report e ≡ true → (held : Option Slip) → ∥ Holds s held ∥₁ → ∥ Holds s' held ∥₁
 keeps x column s e t intake answer s' d reports None h = ∣ tt ∣₁
 keeps x column s e t intake answer s' d reports (Some slip) h = ∥∥₁_map h still
-    where
-      still : Spendable s slip.id s.last → Spendable s' slip.id s'.last
-      still h =
-          let k = carries x column s e t intake answer s' d reports slip.id s.last h in
-          record { phase = k.phase; own = k.own; late = omega arith }
+  where
+    still : Spendable s slip.id s.last → Spendable s' slip.id s'.last
+    still h =
+        let k = carries x column s e t intake answer s' d reports slip.id s.last h in
+        record { phase = k.phase; own = k.own; late = omega arith }

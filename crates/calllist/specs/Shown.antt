@@ -1,11 +1,9 @@
 -- Answers of a session's steps as they are printed.
 use Rattle.std.specs.Prelude.{◌≡◌, ℕ, List, [], Some, None, Option, Ok, Err, Result}
-use Rattle.entries.specs.declared.making.Unmade.{Unmade}
 use Rattle.entries.specs.declared.taker.Override.{Override}
 use Rattle.entries.specs.Columns.{Column}
 use Rattle.entries.specs.Keys.{Coding}
 use Rattle.entries.specs.Makings.{unmade_number, unmade_place}
-use Rattle.session.specs.declared.answer.NotMade.{NotMade}
 use Rattle.session.specs.declared.event.Event.{Event}
 use Rattle.session.specs.declared.event.Event.TheVariants.{Open as Opening, Start, Usage, End, Change, Tick, Intervene, Push, Finish, Shelve}
 use Rattle.session.specs.declared.slip.Slip.{Slip}
@@ -19,13 +17,9 @@ use Rattle.calllist.specs.declared.answer.Rejection.TheVariants.{Session, Book, 
 
 -- makings
 
-abbrev pub session_made : Option NotMade → Result Answer Rejection
-session_made None = Ok Made
-session_made (Some why) = Err (Session why)
-
-abbrev pub book_made : Option Unmade → Result Answer Rejection
-book_made None = Ok Made
-book_made (Some why) = Err (Book why)
+abbrev pub making_answer : Option Rejection → Result Answer Rejection
+making_answer None = Ok Made
+making_answer (Some why) = Err why
 
 -- the number and the place that are printed
 

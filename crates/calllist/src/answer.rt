@@ -1,7 +1,8 @@
 // Answers as they are printed.
 ghost use Rattle.std.specs.Prelude.{◌≡◌};
-ghost use Rattle.calllist.specs.Shown.{session_made, book_made, rejection_number, rejection_place};
+ghost use Rattle.calllist.specs.Shown.{making_answer, rejection_number, rejection_place};
 
+use crate::stop::Stop;
 use entries::making::Unmade;
 use session::answer::*;
 use std::fmt;
@@ -36,22 +37,11 @@ impl From<Refusal> for Rejection {
 }
 
 impl Answer {
-    pub(crate) fn of_session(refused: Option<NotMade>) -> Result<Answer, Rejection>
-        ensures { result ≡ session_made refused }
+    // Of the making of a session or a book.
+    pub(crate) fn of_making(refused: Option<Rejection>) -> Result<Answer, Rejection>
+        ensures { result ≡ making_answer refused }
     {
-        match refused {
-            None => Ok(Answer::Made),
-            Some(why) => Err(Rejection::Session(why)),
-        }
-    }
-
-    pub(crate) fn of_book(refused: Option<Unmade>) -> Result<Answer, Rejection>
-        ensures { result ≡ book_made refused }
-    {
-        match refused {
-            None => Ok(Answer::Made),
-            Some(why) => Err(Rejection::Book(why)),
-        }
+        refused.map_or(Ok(Answer::Made), Err)
     }
 }
 
@@ -105,4 +95,16 @@ impl fmt::Display for Rejection {
             (Some(n), Some(place)) => write!(f, "refused {n} {place}"),
         }
     }
+}
+
+pub(crate) fn say(
+    rt: &impl Print,
+    name: &str,
+    answer: Result<Answer, Rejection>,
+) -> Result<(), Stop> {
+    match answer {
+        Ok(answer) => println!(rt; "{name}: {answer}")?,
+        Err(rejection) => println!(rt; "{name}: {rejection}")?,
+    }
+    Ok(())
 }

@@ -136,7 +136,7 @@ impl<'a> Line<'a> {
     }
 
     pub(crate) fn session(&self) -> Result<SessionLine, Wrong> {
-        let [id, method, t12, t13, t14, t15, t16] = *self.arguments.as_slice() else {
+        let [id, method, t12, t13, t14, t15, t16] = self.arguments.as_slice() else {
             return Err(Wrong::WordCount);
         };
         Ok(SessionLine {
@@ -154,7 +154,7 @@ impl<'a> Line<'a> {
 
     // `profile TRIGGER SWITCH CATEGORY THRESHOLD`
     pub(crate) fn profile(&self) -> Result<Override, Wrong> {
-        let [trigger, switch, category, threshold] = *self.arguments.as_slice() else {
+        let [trigger, switch, category, threshold] = self.arguments.as_slice() else {
             return Err(Wrong::WordCount);
         };
         Ok(Override {
@@ -167,7 +167,7 @@ impl<'a> Line<'a> {
 
     // `book PLACES`
     pub(crate) fn places(&self) -> Result<u32, Wrong> {
-        match *self.arguments.as_slice() {
+        match self.arguments.as_slice() {
             [places] => number(places),
             _ => Err(Wrong::WordCount),
         }
@@ -175,7 +175,7 @@ impl<'a> Line<'a> {
 
     // `link up` or `link down`
     pub(crate) fn link_up(&self) -> Result<bool, Wrong> {
-        match *self.arguments.as_slice() {
+        match self.arguments.as_slice() {
             ["up"] => Ok(true),
             ["down"] => Ok(false),
             [_] => Err(Wrong::LinkState),
@@ -202,7 +202,7 @@ impl<'a> Line<'a> {
             CallName::Finish => Event::Finish(next_number(&mut words)?),
             CallName::Shelve => Event::Shelve,
         };
-        match *words.as_slice() {
+        match words.as_slice() {
             [time] => Ok(Timed {
                 event,
                 time: number(time)?,

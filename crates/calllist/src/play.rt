@@ -21,18 +21,6 @@ use session::event::Event;
 use session::session::Session;
 use session::slip::Slip;
 
-pub(crate) fn say(
-    rt: &impl Print,
-    name: &str,
-    answer: Result<Answer, Rejection>,
-) -> Result<(), Stop> {
-    match answer {
-        Ok(answer) => println!(rt; "{name}: {answer}")?,
-        Err(rejection) => println!(rt; "{name}: {rejection}")?,
-    }
-    Ok(())
-}
-
 fn of_report(answer: Result<Reported, Refusal>) -> Result<Answer, Rejection>
     ensures { Tells result (of_step (told_report answer)) }
 {
@@ -49,11 +37,7 @@ pub struct Player<M: Method> {
 
 impl<M: Method> Player<M> {
     // An opening; a session whose slip is held is open, and refuses it.
-    fn open<F: ChargingFunction>(
-        &mut self,
-        t: u32,
-        function: &mut F,
-    ) -> Result<Answer, Rejection>
+    fn open<F: ChargingFunction>(&mut self, t: u32, function: &mut F) -> Result<Answer, Rejection>
         ensures { Tells result (unless_held self.old.held (step M.Method.column (view self.old.session.ledger) (seen M.Key.LineKey.coding (fed Opening 0 t (F.Taker.room function.old) (F.ChargingFunction.profile function.old)))).answer) }
     {
         if self.held.is_some() {
@@ -64,12 +48,7 @@ impl<M: Method> Player<M> {
         Ok(Answer::Opened(opened))
     }
 
-    fn finish<F: Taker>(
-        &mut self,
-        cause: u8,
-        t: u32,
-        taker: &mut F,
-    ) -> Result<Answer, Rejection>
+    fn finish<F: Taker>(&mut self, cause: u8, t: u32, taker: &mut F) -> Result<Answer, Rejection>
         ensures { Tells result (by_slip self.old.held (λ s. (step M.Method.column (view self.old.session.ledger) (seen M.Key.LineKey.coding (fed (Finishing cause) s.id t (F.Taker.room taker.old) []))).answer)) }
     {
         let slip = self.held.take().ok_or(Rejection::NoSlip)?;
@@ -107,7 +86,9 @@ impl<M: Method> Player<M> {
         match event {
             Event::Open => self.open(t, function),
             Event::Start(key) => of_report(self.session.start(key, t, function)),
-            Event::Usage(key, up, down) => of_report(self.session.usage(key, up, down, t, function)),
+            Event::Usage(key, up, down) => of_report(
+                self.session.usage(key, up, down, t, function),
+            ),
             Event::End(key) => of_report(self.session.end(key, t, function)),
             Event::Change(n) => of_report(self.session.change(n, t, function)),
             Event::Tick => of_report(self.session.tick(t, function)),
@@ -156,7 +137,7 @@ impl<M: Method> Player<M> {
         M::Key: ReadKey,
     {
         for text in input.by_ref() {
-            self.play_line(rt, text?.as_str(), link)?;
+            self.play_line(rt, &text?, link)?;
         }
         Ok(())
     }

@@ -1,7 +1,7 @@
 // Running a whole call list: what is before the calls, the calls, and the book.
-use crate::answer::Answer;
+use crate::answer::*;
 use crate::input::Input;
-use crate::play::*;
+use crate::play::play;
 use crate::setup::*;
 use crate::stop::Stop;
 use entries::book::*;
@@ -59,19 +59,21 @@ fn play_on(
 
 // Runs a call list to its end.
 fn run(rt: &HostRuntime, input: &mut Input) -> Result<(), Stop> {
-    let Some(Setup {
-        session,
-        overrides,
-        places,
-    }) = read_setup(rt, input)?
+    let Some(
+        Setup {
+            session,
+            overrides,
+            places,
+        },
+    ) = read_setup(rt, input)?
     else {
         return Ok(());
     };
     let asked = (places as usize).min(MOST_ENTRIES + 1);
     let mut table = vec![in rt.alloc(); BLANK_ENTRY; asked]?;
-    let made = Book::new(table.as_mut_slice(), overrides.as_slice());
+    let made = Book::new(&mut table, &overrides);
     let refused = places_refused(made.refused, places);
-    say(rt, "book", Answer::of_book(refused))?;
+    say(rt, "book", Answer::of_making(refused.map(Rejection::Book)))?;
     let mut link = Link::new(made.value);
     play_on(rt, input, session, &mut link)
 }

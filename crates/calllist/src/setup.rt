@@ -1,8 +1,7 @@
 // The lines before the calls: session, profile and book.
-use crate::answer::Answer;
+use crate::answer::*;
 use crate::input::Input;
 use crate::line::*;
-use crate::play::*;
 use crate::stop::*;
 use entries::link::Link;
 use entries::method::*;
@@ -25,7 +24,11 @@ fn make_session<M: Method>(
     line: SessionLine,
 ) -> Result<Session<M>, Stop> {
     let made = Session::new(rt.alloc(), method, line.id, line.thresholds);
-    say(rt, "session", Answer::of_session(made.refused))?;
+    say(
+        rt,
+        "session",
+        Answer::of_making(made.refused.map(Rejection::Session)),
+    )?;
     Ok(made.session)
 }
 
@@ -62,7 +65,7 @@ pub(crate) fn read_setup(
     let mut overrides = Vec::new(rt.alloc());
     for text in input.by_ref() {
         let text = text?;
-        let Some(line) = Line::read(rt.alloc(), text.as_str())? else {
+        let Some(line) = Line::read(rt.alloc(), &text)? else {
             continue;
         };
         match line.name {
@@ -90,7 +93,7 @@ pub(crate) fn await_session<F: ChargingFunction>(
 ) -> Result<Option<AnySession>, Stop> {
     for text in input.by_ref() {
         let text = text?;
-        let Some(line) = Line::read(rt.alloc(), text.as_str())? else {
+        let Some(line) = Line::read(rt.alloc(), &text)? else {
             continue;
         };
         match line.name {
