@@ -1,5 +1,5 @@
 -- A slip that is held stays spendable over a call that may report.
-use Rattle.std.proofs.Common.{◌≡◌, ℕ, true, [], Some, None, Option, sym, ap, ◌∙◌, arith}
+use Rattle.std.proofs.Common.{◌≡◌, ℕ, true, [], Some, None, Option, arith}
 use Rattle.std.proofs.Math.Logic.{∥∥₁_map}
 use Rattle.entries.specs.Columns.{Column}
 use Rattle.entries.specs.Keys.{Coding}

@@ -1,5 +1,5 @@
 -- The slip that a run holds.
-use Rattle.std.specs.Prelude.{ℕ, Some, None, Option}
+use Rattle.std.specs.Prelude.{Some, None, Option}
 use Rattle.session.specs.declared.slip.Slip.{Slip}
 use Rattle.session.specs.Slips.{Spendable}
 use Rattle.session.specs.State.{State}

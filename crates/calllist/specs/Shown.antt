@@ -1,15 +1,14 @@
--- Answers of a session's steps as they are printed.
+-- What makings and calls answer.
 use Rattle.std.specs.Prelude.{◌≡◌, ℕ, List, [], Some, None, Option, Ok, Err, Result}
 use Rattle.entries.specs.declared.taker.Override.{Override}
 use Rattle.entries.specs.Columns.{Column}
 use Rattle.entries.specs.Keys.{Coding}
-use Rattle.entries.specs.Makings.{unmade_number, unmade_place}
 use Rattle.session.specs.declared.event.Event.{Event}
 use Rattle.session.specs.declared.event.Event.TheVariants.{Open as Opening, Start, Usage, End, Change, Tick, Intervene, Push, Finish, Shelve}
 use Rattle.session.specs.declared.slip.Slip.{Slip}
 use Rattle.session.specs.State.{State}
 use Rattle.session.specs.Steps.{fed, seen, step}
-use Rattle.session.specs.Answers.{Answer as StepAnswer, number, not_made_number, refused, opened, reported, sent, waiting}
+use Rattle.session.specs.Answers.{Answer as StepAnswer, number, refused, opened, reported, sent, waiting}
 use Rattle.calllist.specs.declared.answer.Answer.{Answer}
 use Rattle.calllist.specs.declared.answer.Answer.TheVariants.{Made, Opened, Reported, Sent, Waiting}
 use Rattle.calllist.specs.declared.answer.Rejection.{Rejection}
@@ -20,20 +19,6 @@ use Rattle.calllist.specs.declared.answer.Rejection.TheVariants.{Session, Book, 
 abbrev pub making_answer : Option Rejection → Result Answer Rejection
 making_answer None = Ok Made
 making_answer (Some why) = Err why
-
--- the number and the place that are printed
-
-abbrev pub rejection_number : Rejection → Option ℕ
-rejection_number (Session why) = Some (not_made_number why)
-rejection_number (Book why) = Some (unmade_number why)
-rejection_number (Call why) = Some (number why)
-rejection_number NoSlip = None
-
-abbrev pub rejection_place : Rejection → Option ℕ
-rejection_place (Session why) = None
-rejection_place (Book why) = unmade_place why
-rejection_place (Call why) = None
-rejection_place NoSlip = None
 
 -- calls
 
@@ -53,9 +38,6 @@ told (Err NoSlip) = None
 abbrev pub Tells : Result Answer Rejection → Option StepAnswer → Type 0
 Tells r None = r ≡ Err NoSlip
 Tells r (Some a) = told r ≡ Some a
-
-abbrev pub of_step : StepAnswer → Option StepAnswer
-of_step a = Some a
 
 -- a call that needs a slip
 abbrev pub by_slip : {S : Type 0} → Option S → (S → StepAnswer) → Option StepAnswer

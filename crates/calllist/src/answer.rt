@@ -1,6 +1,6 @@
 // Answers as they are printed.
-ghost use Rattle.std.specs.Prelude.{◌≡◌};
-ghost use Rattle.calllist.specs.Shown.{making_answer, rejection_number, rejection_place};
+ghost use Rattle.std.specs.Prelude.{◌≡◌, Some};
+ghost use Rattle.calllist.specs.Shown.{making_answer};
 
 use crate::stop::Stop;
 use entries::making::Unmade;
@@ -45,31 +45,11 @@ impl Answer {
     }
 }
 
-impl Rejection {
-    // The number of a refusal.
-    fn number(self) -> Option<u8>
-        ensures { result ≡ rejection_number self }
-    {
-        match self {
-            Rejection::Session(why) => Some(why.number()),
-            Rejection::Book(why) => Some(why.number()),
-            Rejection::Call(why) => Some(why.number()),
-            Rejection::NoSlip => None,
-        }
-    }
-
-    // Its place, where it has one.
-    fn place(self) -> Option<usize>
-        ensures { result ≡ rejection_place self }
-    {
-        match self {
-            Rejection::Book(why) => why.place(),
-            _ => None,
-        }
-    }
-}
-
 impl fmt::Display for Answer {
+    ghost use Rattle.calllist.specs.Printed.{answer_text};
+
+    ghost output = { λ answer. Some (answer_text answer) };
+
     fn fmt<W: fmt::Write>(&self, f: &mut fmt::Formatter<W>) -> fmt::Result {
         match self {
             Answer::Made => write!(f, "made"),
@@ -88,11 +68,19 @@ impl fmt::Display for Answer {
 }
 
 impl fmt::Display for Rejection {
+    ghost use Rattle.calllist.specs.Printed.{rejection_text};
+
+    ghost output = { λ why. Some (rejection_text why) };
+
     fn fmt<W: fmt::Write>(&self, f: &mut fmt::Formatter<W>) -> fmt::Result {
-        match (self.number(), self.place()) {
-            (None, _) => write!(f, "no slip"),
-            (Some(n), None) => write!(f, "refused {n}"),
-            (Some(n), Some(place)) => write!(f, "refused {n} {place}"),
+        match self {
+            Rejection::Session(why) => write!(f, "refused {}", why.number()),
+            Rejection::Call(why) => write!(f, "refused {}", why.number()),
+            Rejection::Book(why) => match why.place() {
+                None => write!(f, "refused {}", why.number()),
+                Some(place) => write!(f, "refused {} {place}", why.number()),
+            },
+            Rejection::NoSlip => write!(f, "no slip"),
         }
     }
 }

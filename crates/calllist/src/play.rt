@@ -6,7 +6,7 @@ ghost use Rattle.session.specs.Slips.{Spendable};
 ghost use Rattle.session.specs.Steps.{step, seen, fed};
 ghost use Rattle.session.specs.View.{view};
 ghost use Rattle.calllist.specs.Held.{Holds};
-ghost use Rattle.calllist.specs.Shown.{Tells, of_step, by_slip, unless_held, answer_to};
+ghost use Rattle.calllist.specs.Shown.{Tells, told, by_slip, unless_held, answer_to};
 
 use crate::answer::*;
 use crate::input::Input;
@@ -22,7 +22,7 @@ use session::session::Session;
 use session::slip::Slip;
 
 fn of_report(answer: Result<Reported, Refusal>) -> Result<Answer, Rejection>
-    ensures { Tells result (of_step (told_report answer)) }
+    ensures { told result ≡ Some (told_report answer) }
 {
     Ok(Answer::Reported(answer?))
 }

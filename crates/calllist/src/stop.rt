@@ -1,6 +1,4 @@
 // What ends a run early.
-ghost use Rattle.std.specs.Prelude.{◌≡◌};
-
 use std::alloc::AllocError;
 use std::{fmt, io};
 
