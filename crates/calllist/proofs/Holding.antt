@@ -13,10 +13,10 @@ use Rattle.session.specs.Steps.{fed, may_report}
 use Rattle.session.proofs.Staying.{carries}
 use Rattle.calllist.specs.Held.{Holds}
 
-pub keeps : {K : Type 0} (x : Coding K) (column : Column) (s : State) (e : Event K) (t intake : ℕ) (answer : Answer) (s' : State)
+pub keeps : {K : Type 0} {x : Coding K} {column : Column} {s : State} {e : Event K} {t intake : ℕ} {answer : Answer} {s' : State}
     → Does x column s (fed e 0 t intake []) answer s' → may_report e ≡ true → (held : Option Slip) → ∥ Holds s held ∥₁ → ∥ Holds s' held ∥₁
-keeps x column s e t intake answer s' d reports None h = ∣ tt ∣₁
-keeps x column s e t intake answer s' d reports (Some slip) h = ∥∥₁_map h still
+keeps d reports None h = ∣ tt ∣₁
+keeps {x = x} {column = column} {s = s} {e = e} {t = t} {intake = intake} {answer = answer} {s' = s'} d reports (Some slip) h = ∥∥₁_map h still
   where
     still : Spendable s slip.id s.last → Spendable s' slip.id s'.last
     still h =

@@ -28,7 +28,7 @@ fn of_report(answer: Result<Reported, Refusal>) -> Result<Answer, Rejection>
 }
 
 // A session with the slip that its opening handed out.
-pub struct Player<M: Method> {
+struct Player<M: Method> {
     session: Session<M>,
     held: Option<Slip>,
     // a slip that is held can be spent from the last accepted time on
