@@ -59,16 +59,14 @@ fn play_on(
 
 // Runs a call list to its end.
 fn run(rt: &HostRuntime, input: &mut Input) -> Result<(), Stop> {
-    let Some(
-        Setup {
-            session,
-            overrides,
-            places,
-        },
-    ) = read_setup(rt, input)?
-    else {
+    let Some(setup) = read_setup(rt, input)? else {
         return Ok(());
     };
+    let Setup {
+        session,
+        overrides,
+        places,
+    } = setup;
     let asked = (places as usize).min(MOST_ENTRIES + 1);
     let mut table = vec![in rt.alloc(); BLANK_ENTRY; asked]?;
     let made = Book::new(&mut table, &overrides);
