@@ -19,11 +19,11 @@ fn show(rt: &impl Print, entries: &[Entry]) -> Result<(), Stop> {
 }
 
 // Why a book of so many places is not made: one place too many is enough for the making to say so, with the places asked for.
-fn places_refused(refused: Option<Unmade>, places: u32) -> Option<Unmade> {
-    match refused {
-        Some(Unmade::WrongLength(_)) => Some(Unmade::WrongLength(places as usize)),
-        other => other,
-    }
+fn places_refused(why: Unmade, places: u32) -> Rejection {
+    Rejection::Book(match why {
+        Unmade::WrongLength(_) => Unmade::WrongLength(places as usize),
+        Unmade::TooManyOverrides => why,
+    })
 }
 
 // Plays the calls on a session of its method.
@@ -40,21 +40,21 @@ fn play_any<F: ChargingFunction>(
     }
 }
 
-// Plays the lines behind the book on it.
-fn play_on(
+// Plays the lines behind the book on a charging function.
+fn play_on<F: ChargingFunction>(
     rt: &HostRuntime,
     input: &mut Input,
     session: Option<AnySession>,
-    link: &mut Link<Book>,
+    link: &mut Link<F>,
 ) -> Result<(), Stop> {
     let session = match session {
         Some(session) => Some(session),
         None => await_session(rt, input, link)?,
     };
-    if let Some(session) = session {
-        play_any(rt, input, session, link)?;
+    match session {
+        Some(session) => play_any(rt, input, session, link),
+        None => Ok(()),
     }
-    show(rt, link.below().entries())
 }
 
 // Runs a call list to its end.
@@ -69,11 +69,19 @@ fn run(rt: &HostRuntime, input: &mut Input) -> Result<(), Stop> {
     } = setup;
     let asked = (places as usize).min(MOST_ENTRIES + 1);
     let mut table = vec![in rt.alloc(); BLANK_ENTRY; asked]?;
-    let made = Book::new(&mut table, &overrides);
-    let refused = places_refused(made.refused, places);
-    say(rt, "book", Answer::of_making(refused.map(Rejection::Book)))?;
-    let mut link = Link::new(made.value);
-    play_on(rt, input, session, &mut link)
+    match Book::new(&mut table, &overrides) {
+        Ok(book) => {
+            say(rt, "book", Answer::of_making(None))?;
+            let mut link = Link::new(book);
+            play_on(rt, input, session, &mut link)?;
+            show(rt, link.below().entries())
+        }
+        Err(refused) => {
+            let why = places_refused(refused.why, places);
+            say(rt, "book", Answer::of_making(Some(why)))?;
+            play_on(rt, input, session, &mut Link::new(refused))
+        }
+    }
 }
 
 // Says on standard error why a run ends early, and at which line.

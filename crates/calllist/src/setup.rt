@@ -4,6 +4,7 @@ use crate::input::Input;
 use crate::line::*;
 use crate::stop::*;
 use entries::link::Link;
+use entries::making::Refused;
 use entries::method::*;
 use entries::taker::*;
 use session::session::Session;
@@ -23,13 +24,12 @@ fn make_session<M: Method>(
     method: M,
     line: SessionLine,
 ) -> Result<Session<M>, Stop> {
-    let made = Session::new(rt.alloc(), method, line.id, line.thresholds);
-    say(
-        rt,
-        "session",
-        Answer::of_making(made.refused.map(Rejection::Session)),
-    )?;
-    Ok(made.session)
+    let (session, refused) = match Session::new(rt.alloc(), method, line.id, line.thresholds) {
+        Ok(session) => (session, None),
+        Err(Refused { why, left }) => (left, Some(Rejection::Session(why))),
+    };
+    say(rt, "session", Answer::of_making(refused))?;
+    Ok(session)
 }
 
 fn make_any(rt: &(impl Print + AllocGlobal), line: SessionLine) -> Result<AnySession, Stop> {
