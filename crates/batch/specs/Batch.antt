@@ -8,7 +8,7 @@ use Rattle.session.specs.declared.event.Event.TheVariants.{Open as Opening, Star
 use Rattle.session.specs.Answers.{Answer}
 use Rattle.session.specs.Performing.{Outcome}
 use Rattle.session.specs.State.{State}
-use Rattle.session.specs.Steps.{Making, as_made, fed, seen, step, accepted}
+use Rattle.session.specs.Steps.{as_made, fed, seen, step, accepted}
 use Rattle.batch.specs.declared.Call.{Call}
 
 abbrev pub group_key : ℕ → ServiceKey
