@@ -84,7 +84,11 @@ pub fn count_accepted(session: &mut Session<Converged>, calls: &[Call]) -> u64
     ensures { result ≡ accepted_on (view session.old.ledger) calls.now }
 {
     let mut table = [BLANK_ENTRY; 1];
-    let mut link = Link::new(Book::new(&mut table, &[]).value);
+    let book = match Book::new(&mut table, &[]) {
+        Ok(book) => book,
+        Err(_) => unreachable!(),
+    };
+    let mut link = Link::new(book);
     let Ok((_, slip)) = session.open(0, &mut link) else {
         return 0;
     };
@@ -98,6 +102,8 @@ pub fn count_accepted(session: &mut Session<Converged>, calls: &[Call]) -> u64
 pub fn batch_accepted(heap: Global, calls: &[Call]) -> u64
     ensures { (memory : Bool) × (result ≡ accepted_on (new_session memory) calls.now) }
 {
-    let mut session = Session::new(heap, Converged, CHARGING_ID, NO_LIMITS).session;
-    count_accepted(&mut session, calls)
+    match Session::new(heap, Converged, CHARGING_ID, NO_LIMITS) {
+        Ok(mut session) => count_accepted(&mut session, calls),
+        Err(_) => 0,
+    }
 }

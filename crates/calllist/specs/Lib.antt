@@ -1,2 +1,3 @@
 pub mod Shown
 pub mod Held
+pub mod Printed

@@ -1,76 +1,99 @@
 // Answers as they are printed.
-ghost use Rattle.std.specs.Prelude.{◌≡◌};
-ghost use Rattle.calllist.specs.Shown.{session_made, book_made, is_accepted};
+ghost use Rattle.std.specs.Prelude.{◌≡◌, Some};
+ghost use Rattle.calllist.specs.Shown.{making_answer};
 
+use crate::stop::Stop;
 use entries::making::Unmade;
+use entries::refusal::Numbered;
 use session::answer::*;
 use std::fmt;
 
+// What is accepted.
 #[derive(Clone, Copy)]
 pub enum Answer {
     Made,
-    Refused(u8),
-    RefusedAt(u8, usize),
     Opened(Opened),
     Reported(Reported),
     Sent(usize),
     Waiting(usize),
+}
+
+// What is not: a session's making, a book's, or a call, which may also lack its slip.
+#[derive(Clone, Copy)]
+pub enum Rejection {
+    Session(NotMade),
+    Book(Unmade),
+    Call(Refusal),
     NoSlip,
 }
 
+impl From<Refusal> for Rejection {
+    ghost use Rattle.calllist.specs.declared.answer.Rejection.TheVariants.{Call};
+
+    ghost from_gives = { λ why r. r ≡ Call why };
+
+    fn from(why: Refusal) -> Rejection {
+        Rejection::Call(why)
+    }
+}
+
 impl Answer {
-    // Of a session's making.
-    pub(crate) fn of_session(refused: Option<NotMade>) -> Answer
-        ensures { result ≡ session_made refused }
+    // Of the making of a session or a book.
+    pub(crate) fn of_making(refused: Option<Rejection>) -> Result<Answer, Rejection>
+        ensures { result ≡ making_answer refused }
     {
-        match refused {
-            None => Answer::Made,
-            Some(why) => Answer::Refused(why.number()),
-        }
-    }
-
-    // Whether the call was accepted.
-    pub(crate) fn is_accepted(&self) -> bool
-        ensures { result ≡ is_accepted self.now }
-    {
-        !matches!(
-            self,
-            Answer::Refused(_) | Answer::RefusedAt(_, _) | Answer::NoSlip
-        )
-    }
-
-    // Of a book's making.
-    pub(crate) fn of_book(refused: Option<Unmade>) -> Answer
-        ensures { result ≡ book_made refused }
-    {
-        let Some(why) = refused else {
-            return Answer::Made;
-        };
-        match why.place() {
-            Some(place) => Answer::RefusedAt(why.number(), place),
-            None => Answer::Refused(why.number()),
-        }
+        refused.map_or(Ok(Answer::Made), Err)
     }
 }
 
 impl fmt::Display for Answer {
+    ghost use Rattle.calllist.specs.Printed.{answer_text};
+
+    ghost output = { λ answer. Some (answer_text answer) };
+
     fn fmt<W: fmt::Write>(&self, f: &mut fmt::Formatter<W>) -> fmt::Result {
         match self {
             Answer::Made => write!(f, "made"),
-            Answer::Refused(n) => write!(f, "refused {n}"),
-            Answer::RefusedAt(n, place) => write!(f, "refused {n} {place}"),
-            Answer::Opened(o) => write!(f, "applied {} passed {}", o.applied, o.passed),
-            Answer::Reported(r) => {
-                let n = r.closed;
-                match r.due {
-                    Due::Nothing => write!(f, "closed {n} nothing"),
-                    Due::Sent(sent) => write!(f, "closed {n} sent {sent}"),
-                    Due::Held(held) => write!(f, "closed {n} held {held}"),
-                }
+            Answer::Opened(Opened { applied, passed }) => {
+                write!(f, "applied {applied} passed {passed}")
             }
+            Answer::Reported(Reported { closed, due }) => match due {
+                Due::Nothing => write!(f, "closed {closed} nothing"),
+                Due::Sent(sent) => write!(f, "closed {closed} sent {sent}"),
+                Due::Held(held) => write!(f, "closed {closed} held {held}"),
+            },
             Answer::Sent(n) => write!(f, "sent {n}"),
             Answer::Waiting(n) => write!(f, "waiting {n}"),
-            Answer::NoSlip => write!(f, "no slip"),
         }
     }
+}
+
+impl fmt::Display for Rejection {
+    ghost use Rattle.calllist.specs.Printed.{rejection_text};
+
+    ghost output = { λ why. Some (rejection_text why) };
+
+    fn fmt<W: fmt::Write>(&self, f: &mut fmt::Formatter<W>) -> fmt::Result {
+        match self {
+            Rejection::Session(why) => write!(f, "refused {}", why.number()),
+            Rejection::Call(why) => write!(f, "refused {}", why.number()),
+            Rejection::Book(why) => match why.place() {
+                None => write!(f, "refused {}", why.number()),
+                Some(place) => write!(f, "refused {} {place}", why.number()),
+            },
+            Rejection::NoSlip => write!(f, "no slip"),
+        }
+    }
+}
+
+pub(crate) fn say(
+    rt: &impl Print,
+    name: &str,
+    answer: Result<Answer, Rejection>,
+) -> Result<(), Stop> {
+    match answer {
+        Ok(answer) => println!(rt; "{name}: {answer}")?,
+        Err(rejection) => println!(rt; "{name}: {rejection}")?,
+    }
+    Ok(())
 }

@@ -2,21 +2,17 @@
 ghost use Rattle.std.specs.Prelude.{◌≡◌, IfOk, IfErr};
 ghost use Rattle.std.specs.IoError.{error_kind};
 
+use crate::stop::Stop;
 use std::alloc::Global;
 use std::io;
-use std::io::{BufRead, BufReader, ErrorKind, Stdin};
+use std::io::{BufRead, BufReader, ErrorKind, Lines, Stdin};
 
 #[derive(Drop)]
 pub struct Input {
-    reader: BufReader<Stdin>,
-    line: String,
+    lines: Lines<BufReader<Stdin>>,
     // how many lines were read
     pub number: u64,
 }
-
-// Input that cannot be read, or that is no text.
-#[derive(Clone, Copy)]
-pub struct Unreadable;
 
 impl Input {
     // Fails only where there is no memory for the reader's buffer; nothing is read then.
@@ -25,26 +21,22 @@ impl Input {
         ensures err { IfErr result (λ e. error_kind e ≡ ErrorKind.OutOfMemory) }
     {
         Ok(Input {
-            reader: BufReader::new(heap, stdin)?,
-            line: String::new(heap),
+            lines: BufReader::new(heap, stdin)?.lines(heap),
             number: 0,
         })
     }
+}
 
-    // Reads the next line; false at the end of the input.
-    pub(crate) fn next_line(&mut self) -> Result<bool, Unreadable> {
-        self.line.clear();
-        match self.reader.read_line(&mut self.line) {
-            Ok(0) => Ok(false),
-            Ok(_) => {
-                self.number = self.number.saturating_add(1);
-                Ok(true)
-            }
-            Err(_) => Err(Unreadable),
+impl Iterator for Input {
+    type Item = Result<String, Stop>;
+
+    ghost remaining = { λ s. ⟦<Lines<BufReader<Stdin>> as Iterator>⟧.remaining s.lines };
+
+    fn next(&mut self) -> Option<Result<String, Stop>> {
+        let line = self.lines.next()?.map_err(|_| Stop::Input);
+        if line.is_ok() {
+            self.number = self.number.saturating_add(1);
         }
-    }
-
-    pub(crate) fn line(&self) -> &str {
-        self.line.as_str()
+        Some(line)
     }
 }

@@ -1,29 +1,22 @@
 // Line keys as a call list writes them.
-use crate::words::*;
+use crate::line::*;
+use crate::stop::Wrong;
 use entries::key::*;
+use std::slice::Iter;
 
 // A kind of keys that a call list can name.
 pub trait ReadKey: LineKey {
-    // How many words a key has.
-    fn words() -> usize;
-
-    // The key whose words begin at an index.
-    fn read(words: &Words, at: usize) -> Result<Self, Wrong>;
+    // The key that the next words name.
+    fn read(words: &mut Iter<'_, &str>) -> Result<Self, Wrong>;
 }
 
 // A rating group and a service id, `-` where there is none.
 impl ReadKey for ServiceKey {
-    fn words() -> usize {
-        2
-    }
-
-    fn read(words: &Words, at: usize) -> Result<ServiceKey, Wrong> {
-        let rating_group = words.u32_at(at)?;
-        let next = at.saturating_add(1);
-        let service_id = if words.at(next) == "-" {
-            None
-        } else {
-            Some(words.u32_at(next)?)
+    fn read(words: &mut Iter<'_, &str>) -> Result<ServiceKey, Wrong> {
+        let rating_group = next_number(words)?;
+        let service_id = match words.next().copied().ok_or(Wrong::Number)? {
+            "-" => None,
+            id => Some(number(id)?),
         };
         Ok(ServiceKey {
             rating_group,
@@ -34,12 +27,8 @@ impl ReadKey for ServiceKey {
 
 // A QoS flow identifier. One above 255 is out of range whatever it is, and goes on as 255.
 impl ReadKey for Qfi {
-    fn words() -> usize {
-        1
-    }
-
-    fn read(words: &Words, at: usize) -> Result<Qfi, Wrong> {
-        let n = words.u32_at(at)?.min(255);
-        Ok(Qfi(n as u8))
+    fn read(words: &mut Iter<'_, &str>) -> Result<Qfi, Wrong> {
+        let n: u32 = next_number(words)?;
+        Ok(Qfi(u8::try_from(n).unwrap_or(u8::MAX)))
     }
 }

@@ -2,10 +2,10 @@
 #![tactic(auto)]
 
 pub mod answer;
-pub mod command;
 pub mod input;
 pub mod key;
+pub mod line;
 pub mod play;
 pub mod run;
 pub mod setup;
-pub mod words;
+pub mod stop;

@@ -1,44 +1,38 @@
 // Running a whole call list: what is before the calls, the calls, and the book.
-ghost use Rattle.std.specs.Prelude.{IfErr};
-ghost use Rattle.calllist.specs.Held.{IsSettled};
-
 use crate::answer::*;
-use crate::input::*;
-use crate::play::*;
+use crate::input::Input;
+use crate::play::play;
 use crate::setup::*;
+use crate::stop::Stop;
 use entries::book::*;
 use entries::entry::*;
 use entries::link::*;
-use entries::making::*;
+use entries::making::Unmade;
 use entries::taker::*;
 
 // An entry a line, its fields in the order of the layout.
 fn show(rt: &impl Print, entries: &[Entry]) -> Result<(), Stop> {
     for e in entries {
-        if println!(rt; "{e}").is_err() {
-            return Err(Stop::Output);
-        }
+        println!(rt; "{e}")?;
     }
     Ok(())
 }
 
 // Why a book of so many places is not made: one place too many is enough for the making to say so, with the places asked for.
-fn places_refused(refused: Option<Unmade>, places: u32) -> Option<Unmade> {
-    match refused {
-        Some(Unmade::WrongLength(_)) => Some(Unmade::WrongLength(places as usize)),
-        other => other,
-    }
+fn places_refused(why: Unmade, places: u32) -> Rejection {
+    Rejection::Book(match why {
+        Unmade::WrongLength(_) => Unmade::WrongLength(places as usize),
+        Unmade::TooManyOverrides => why,
+    })
 }
 
 // Plays the calls on a session of its method.
 fn play_any<F: ChargingFunction>(
     rt: &HostRuntime,
     input: &mut Input,
-    session: &mut AnySession,
+    session: AnySession,
     link: &mut Link<F>,
-) -> Result<(), Ended>
-    ensures { IfErr result IsSettled }
-{
+) -> Result<(), Stop> {
     match session {
         AnySession::Converged(session) => play(rt, input, session, link),
         AnySession::Offline(session) => play(rt, input, session, link),
@@ -46,63 +40,54 @@ fn play_any<F: ChargingFunction>(
     }
 }
 
-// Plays the lines behind the book on it.
-fn play_on(
+// Plays the lines behind the book on a charging function.
+fn play_on<F: ChargingFunction>(
     rt: &HostRuntime,
     input: &mut Input,
     session: Option<AnySession>,
-    link: &mut Link<Book>,
-) -> Result<(), Ended>
-    ensures { IfErr result IsSettled }
-{
+    link: &mut Link<F>,
+) -> Result<(), Stop> {
     let session = match session {
         Some(session) => Some(session),
-        None => match await_session(rt, input, link) {
-            Ok(session) => session,
-            Err(stop) => return Err(Ended::Stopped(stop)),
-        },
+        None => await_session(rt, input, link)?,
     };
-    if let Some(mut session) = session {
-        play_any(rt, input, &mut session, link)?;
-    }
-    match show(rt, link.below().entries()) {
-        Ok(()) => Ok(()),
-        Err(stop) => Err(Ended::Stopped(stop)),
+    match session {
+        Some(session) => play_any(rt, input, session, link),
+        None => Ok(()),
     }
 }
 
 // Runs a call list to its end.
-fn run(rt: &HostRuntime, input: &mut Input) -> Result<(), Ended>
-    ensures { IfErr result IsSettled }
-{
+fn run(rt: &HostRuntime, input: &mut Input) -> Result<(), Stop> {
+    let Some(setup) = read_setup(rt, input)? else {
+        return Ok(());
+    };
     let Setup {
         session,
         overrides,
         places,
-    } = match read_setup(rt, input) {
-        Ok(setup) => setup,
-        Err(stop) => return Err(Ended::Stopped(stop)),
-    };
-    let Some(places) = places else {
-        return Ok(());
-    };
+    } = setup;
     let asked = (places as usize).min(MOST_ENTRIES + 1);
-    let Ok(mut table) = vec![in rt.alloc(); BLANK_ENTRY; asked] else {
-        return Err(Ended::Stopped(Stop::Memory));
-    };
-    let made = Book::new(table.as_mut_slice(), overrides.as_slice());
-    let answer = Answer::of_book(places_refused(made.refused, places));
-    if let Err(stop) = say(rt, "book", answer) {
-        return Err(Ended::Stopped(stop));
+    let mut table = vec![in rt.alloc(); BLANK_ENTRY; asked]?;
+    match Book::new(&mut table, &overrides) {
+        Ok(book) => {
+            say(rt, "book", Answer::of_making(None))?;
+            let mut link = Link::new(book);
+            play_on(rt, input, session, &mut link)?;
+            show(rt, link.below().entries())
+        }
+        Err(refused) => {
+            let why = places_refused(refused.why, places);
+            say(rt, "book", Answer::of_making(Some(why)))?;
+            play_on(rt, input, session, &mut Link::new(refused))
+        }
     }
-    let mut link = Link::new(made.value);
-    play_on(rt, input, session, &mut link)
 }
 
 // Says on standard error why a run ends early, and at which line.
 fn explain(rt: &impl Eprint, stop: Stop, number: u64) {
     let _ = match stop {
-        Stop::Line(wrong) => eprintln!(rt; "line {number}: {}", wrong.text()),
+        Stop::Line(wrong) => eprintln!(rt; "line {number}: {wrong}"),
         Stop::Input => eprintln!(rt; "line {number}: the input cannot be read"),
         Stop::Output => eprintln!(rt; "the output cannot be written"),
         Stop::Memory => eprintln!(rt; "no memory"),
@@ -110,17 +95,13 @@ fn explain(rt: &impl Eprint, stop: Stop, number: u64) {
 }
 
 // Runs the call list on standard input, and says on standard error what is wrong where it ends early. No slip is left.
-pub fn replay(rt: &HostRuntime) -> Result<(), Ended>
-    ensures { IfErr result IsSettled }
-{
-    let Ok(mut input) = Input::new(rt.alloc(), rt.stdin()) else {
-        explain(rt, Stop::Memory, 0);
-        return Err(Ended::Stopped(Stop::Memory));
+pub fn replay(rt: &HostRuntime) -> Result<(), Stop> {
+    let (result, number) = match Input::new(rt.alloc(), rt.stdin()) {
+        Ok(mut input) => (run(rt, &mut input), input.number),
+        Err(_) => (Err(Stop::Memory), 0),
     };
-    let result = run(rt, &mut input);
-    if let Err(Ended::Stopped(stop)) = result {
-        explain(rt, stop, input.number);
-        return Err(Ended::Stopped(stop));
+    if let Err(stop) = result {
+        explain(rt, stop, number);
     }
     result
 }

@@ -1,5 +1,5 @@
 -- Sums over a book: one entry more, and their bound.
-use Rattle.std.proofs.Common.{◌≡◌, ℕ, ◌+◌, ◌*◌, ◌<◌, ◌≤◌, Bool, true, false, cond, List, [], ◌∷◌, length, get_or, drop, is_err, Ok, Err, Result, sym, ap, ◌∙◌, arith}
+use Rattle.std.proofs.Common.{◌≡◌, ℕ, ◌+◌, ◌*◌, ◌<◌, ◌≤◌, Bool, true, false, cond, List, [], ◌∷◌, length, get_or, drop, is_ok, Ok, Err, Result, sym, ap, ◌∙◌, arith}
 use Rattle.std.specs.List.{AllByRecursion}
 use Rattle.std.proofs.ByRecursion.{All-append}
 use Rattle.std.proofs.lemmas.List.{at_drop_more, at_drop_all}
@@ -55,6 +55,6 @@ requests_within none = tt
 requests_within (more {q} {es} h cs w r) =
     (head_within h cs w, All-append Within cs es (containers_within cs (formed_containers h cs w)) (requests_within r))
 
-pub judged_within : (es : List Entry) (r : Result ℕ ℕ) → is_err r ≡ false → Judged es r → AllByRecursion Within es
+pub judged_within : (es : List Entry) (r : Result ℕ ℕ) → is_ok r ≡ true → Judged es r → AllByRecursion Within es
 judged_within es (Ok q) e j = requests_within j
-judged_within es (Err i) e j = absurd (true≢false e)
+judged_within es (Err i) e j = absurd (true≢false (sym e))

@@ -6,13 +6,16 @@ use crate::entry::*;
 use crate::profile::*;
 use crate::refusal::Numbered;
 use crate::taker::*;
+use std::error::Error;
+use std::fmt;
+use std::fmt::{Debug, Display};
 
 // Why the making of a book or a journal is refused.
-#[derive(Clone, Copy, PartialEq, Eq, Debug)]
+#[derive(Clone, Copy, PartialEq, Eq, Debug, thiserror::Error)]
 pub enum Unmade {
-    // the profile has more than 32 overrides
+    #[error("the profile has more than 32 overrides")]
     TooManyOverrides,
-    // the lent memory is too long, or too short, with its length
+    #[error("the lent memory is too long or too short: {0}")]
     WrongLength(usize),
 }
 
@@ -45,6 +48,20 @@ pub struct Refused<W, T> {
     pub why: W,
     pub left: T,
 }
+
+impl<W: Debug, T> Debug for Refused<W, T> {
+    fn fmt<F: fmt::Write>(&self, f: &mut fmt::Formatter<F>) -> fmt::Result {
+        self.why.fmt(f)
+    }
+}
+
+impl<W: Display, T> Display for Refused<W, T> {
+    fn fmt<F: fmt::Write>(&self, f: &mut fmt::Formatter<F>) -> fmt::Result {
+        self.why.fmt(f)
+    }
+}
+
+impl<W: Error, T: Drop> Error for Refused<W, T> {}
 
 // What is left of a charging function takes nothing for good, and has no profile.
 impl<T> Taker for Refused<Unmade, T> {

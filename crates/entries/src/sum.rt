@@ -8,6 +8,7 @@ use crate::entry::*;
 use crate::key::*;
 use crate::refusal::Numbered;
 use crate::sequence::*;
+use thiserror::Error;
 
 // The most entries that are summed.
 pub const MOST_SUMMED: usize = 32_768;
@@ -20,13 +21,13 @@ pub struct Octets {
 }
 
 // Why a book is not summed.
-#[derive(Clone, Copy, PartialEq, Eq, Debug)]
+#[derive(Clone, Copy, PartialEq, Eq, Debug, Error)]
 pub enum Unsummed {
-    // the book has more than 32,768 entries
+    #[error("the book has more than 32,768 entries")]
     TooManyEntries,
-    // the key is out of range
+    #[error("the key is out of range")]
     KeyOutOfRange,
-    // the entries are not a sequence of well-formed requests
+    #[error("the entries are not a sequence of well-formed requests")]
     NotRequests,
 }
 
@@ -79,8 +80,6 @@ pub fn sum<K: LineKey>(book: &[Entry], key: &K, period: u16) -> Result<Octets, U
         return Err(Unsummed::TooManyEntries);
     }
     let line = key.line().ok_or(Unsummed::KeyOutOfRange)?;
-    if count_requests(book).is_err() {
-        return Err(Unsummed::NotRequests);
-    }
+    count_requests(book).map_err(|_| Unsummed::NotRequests)?;
     Ok(add_up(book, line, period))
 }

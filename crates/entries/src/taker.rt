@@ -8,13 +8,14 @@ ghost use Rattle.entries.specs.Requests.{take_answer, declined_number};
 use crate::entry::*;
 use crate::refusal::Numbered;
 use crate::request::*;
+use thiserror::Error;
 
 // Why a request is not taken.
-#[derive(Clone, Copy, PartialEq, Eq, Debug)]
+#[derive(Clone, Copy, PartialEq, Eq, Debug, Error)]
 pub enum Declined {
-    // the request is not well formed
+    #[error("the request is not well formed")]
     Malformed = 4,
-    // head and containers are more entries than the intake
+    #[error("head and containers are more entries than the intake")]
     IntakeTooSmall = 10,
 }
 

@@ -1,11 +1,12 @@
 -- Numbers in a row as bytes: written, read back, and written again.
-use Rattle.std.proofs.Common.{◌≡◌, ℕ, zero, suc, ◌+◌, ◌*◌, ◌/◌, ◌%◌, ◌^◌, ◌<◌, ◌≤◌, List, [], ◌∷◌, ◌++◌, map, length, get_or, take, drop, sym, refl, ap, ◌∙◌, append_assoc, mod-eq_of_lt, mul_assoc, add_comm, div-one, arith, length-take}
+use Rattle.std.proofs.Common.{◌≡◌, ℕ, zero, suc, ◌+◌, ◌*◌, ◌/◌, ◌%◌, ◌^◌, ◌<◌, ◌≤◌, List, [], ◌∷◌, ◌++◌, length, take, drop, sym, refl, ap, ◌∙◌, append_assoc, mod-eq_of_lt, mul_assoc, add_comm, div-one, arith, length-take, slice_index, drop-cons, ◌-◌}
 use native.Mathlib.Nat.{mod-one, one-le-pow, pow-succ', add-mul-div_right, add-mul-mod_self_right}
 use lib.Arith.{mod-mul, digits_lt, digits_div}
-use Rattle.std.specs.List.{range_with_len, AllByRecursion}
-use Rattle.std.proofs.lemmas.List.FromFn.{fill_by_all}
+use Rattle.std.specs.List.{AllByRecursion}
+use Rattle.std.specs.Int.{bytes_high_first, byte_worth, sum_through}
+use Rattle.std.proofs.Math.Nat.{mul-one}
 use Rattle.std.proofs.ByRecursion.{All-take, All-drop}
-use Rattle.std.proofs.lemmas.List.{take_at, drop_at, take-append-drop, length-take-le, length-drop, nil_from_length, get_or-take, get_or-drop, drop-drop, take-take, drop-take}
+use Rattle.std.proofs.lemmas.List.{take_at, drop_at, take-append-drop, length-take-le, length-drop, nil_from_length, drop-drop, take-take, drop-take}
 use Rattle.entries.specs.Written.{written}
 use Rattle.entries.proofs.WrittenLaws.{written_none, written_next, length_written}
 use Rattle.journal.specs.Codec.{be, value, pack, unpack, Fit, total}
@@ -61,21 +62,47 @@ unpack_pack (w ∷ ws) (v ∷ vs) more h =
     rw (append_assoc, take_at (be w v) (pack ws vs ++ more) w l, drop_at (be w v) (pack ws vs ++ more) w l, value_be w v h.0)
     (ap (λ x. v ∷ x) (unpack_pack ws vs more h.1))
 
--- a part of the bytes, one by one
-pub cells : (bs : List ℕ) (at k : ℕ) → at + k ≤ length bs → take k (drop at bs) ≡ map (λ i. get_or bs (at + i) 0) (range_with_len 0 k)
-cells bs at k h =
-    fill_by_all (λ i. get_or bs (at + i) 0) (take k (drop at bs)) k 0 (simp (length-take, length-drop) (omega arith))
-    (λ i l. get_or-take k (drop at bs) i 0 l ∙ get_or-drop at bs i 0)
-
-pub be_one : (n : ℕ) → n < 256 → n ∷ [] ≡ be 1 n
+-- the bytes that `to_be_bytes` writes in any width
+be_high_first : (k n : ℕ) → bytes_high_first k n ≡ be k n
 unfolding be
-be_one n h = ap (λ x. x ∷ []) (sym (ap (λ x. x % 256) (div-one n) ∙ mod-eq_of_lt h))
+be_high_first zero n = refl
+be_high_first (suc zero) n = rw div-one
+be_high_first (suc (suc k)) n = ap (λ x. n / 256 ^ suc k % 256 ∷ x) (be_high_first (suc k) n)
+
+-- the number that `from_be_bytes` reads in any width
+abbrev pub high_first : ℕ → List ℕ → ℕ
+high_first zero bs = 0
+high_first (suc k) bs = sum_through (λ i. byte_worth (k - i) (slice_index bs i)) k
+
+worth : (i b : ℕ) → byte_worth i b ≡ b * 256 ^ i
+worth zero b = sym (mul-one b)
+worth (suc i) b = refl
+
+-- its first bytes, and the rest of them
+value_at : (k j : ℕ) (bs : List ℕ) → length bs ≡ suc k → j ≤ k → value (drop j bs) ≡ byte_worth (k - j) (slice_index bs j) + value (drop (suc j) bs)
+unfolding value
+value_at k j bs e h =
+    let l : length (drop (suc j) bs) ≡ k - j = simp length-drop (omega arith) in
+    rw (drop-cons bs j 0 (omega arith), l, worth)
+
+value_through : (k j : ℕ) (bs : List ℕ) → length bs ≡ suc k → j ≤ k
+    → sum_through (λ i. byte_worth (k - i) (slice_index bs i)) j + value (drop (suc j) bs) ≡ value bs
+value_through k zero bs e h = sym (value_at k 0 bs e h)
+value_through k (suc j) bs e h = omega (arith, value_at k (suc j) bs e h, value_through k j bs e (omega arith))
+
+value_high_first : (w : ℕ) (bs : List ℕ) → length bs ≡ w → value bs ≡ high_first w bs
+unfolding value
+value_high_first zero bs e = let z : bs ≡ [] = nil_from_length bs e in rw z
+value_high_first (suc k) bs e =
+    let d : drop (suc k) bs ≡ [] = nil_from_length _ (simp length-drop (omega arith)) in
+    let r : value (drop (suc k) bs) ≡ 0 = rw d in
+    omega (arith, value_through k k bs e (omega arith), r)
 
 -- numbers written one after the other, from the place at on
 abbrev pub writes : ℕ → List ℕ → List ℕ → List ℕ → List ℕ
 writes at [] vs t = t
 writes at (w ∷ ws) [] t = t
-writes at (w ∷ ws) (v ∷ vs) t = writes (at + w) ws vs (written t at (be w v))
+writes at (w ∷ ws) (v ∷ vs) t = writes (at + w) ws vs (written t at (bytes_high_first w v))
 
 pub writes_pack : (at : ℕ) (ws vs t : List ℕ) → at + total ws ≤ length t → writes at ws vs t ≡ written t at (pack ws vs)
 writes_pack at [] vs t h = sym (written_none t at)
@@ -84,7 +111,7 @@ writes_pack at (w ∷ ws) (v ∷ vs) t h =
     let l = length_be w v in
     let f : at + length (be w v) ≤ length t = omega (arith, l) in
     let g : (at + w) + total ws ≤ length (written t at (be w v)) = omega (arith, length_written t at (be w v) f) in
-    writes_pack (at + w) ws vs (written t at (be w v)) g
+    rw (be_high_first w v) (writes_pack (at + w) ws vs (written t at (be w v)) g)
     ∙ written_next t at (be w v) (pack ws vs) (at + w) (omega arith) (omega (arith, l))
 
 -- numbers read one after the other, from the place at on
@@ -95,6 +122,17 @@ words at (w ∷ ws) bs = value (take w (drop at bs)) ∷ words (at + w) ws bs
 pub unpack_words : (at : ℕ) (ws bs : List ℕ) → unpack ws (drop at bs) ≡ words at ws bs
 unpack_words at [] bs = refl
 unpack_words at (w ∷ ws) bs = rw (drop-drop w at bs) (ap (λ x. value (take w (drop at bs)) ∷ x) (unpack_words (at + w) ws bs))
+
+-- the same as `from_be_bytes` reads them
+abbrev pub reads : ℕ → List ℕ → List ℕ → List ℕ
+reads at [] bs = []
+reads at (w ∷ ws) bs = high_first w (take w (drop at bs)) ∷ reads (at + w) ws bs
+
+pub words_read : (at : ℕ) (ws bs : List ℕ) → at + total ws ≤ length bs → words at ws bs ≡ reads at ws bs
+words_read at [] bs h = refl
+words_read at (w ∷ ws) bs h =
+    let l : length (take w (drop at bs)) ≡ w = simp (length-take, length-drop) (omega arith) in
+    rw (value_high_first w (take w (drop at bs)) l, words_read (at + w) ws bs (omega arith))
 
 -- numbers are read from their own bytes alone
 pub unpack_take : (ws bs : List ℕ) → unpack ws (take (total ws) bs) ≡ unpack ws bs

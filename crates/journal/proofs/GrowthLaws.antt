@@ -2,11 +2,12 @@
 use Rattle.std.proofs.Common.{◌≡◌, ℕ, suc, ◌+◌, ◌*◌, ◌≤◌, List, ◌∷◌, ◌++◌, length, take, drop, sym, ap, ◌∙◌, add_assoc, arith, take-add}
 use Rattle.std.specs.List.{AllByRecursion}
 use Rattle.std.proofs.lemmas.List.{drop_at, take-take, drop-take, take-append-le, drop-append-le, drop-drop, length-append, length-take, length-take-le, length-drop}
+use Rattle.std.proofs.lemmas.List.Concat.{flat_map-append}
 use Rattle.entries.specs.declared.entry.Entry.{Entry}
 use Rattle.entries.specs.Written.{written}
 use Rattle.entries.proofs.WrittenLaws.{take_written, drop_written, length_written, written_next}
 use Rattle.journal.specs.Layout.{entry_size, header_size, entry_offset, entry_bytes, EntryFits, header_bytes, all_bytes, journal_bytes, entries_in, grown}
-use Rattle.journal.proofs.LayoutLaws.{length_entry, length_header, length_all, all_append, entries_split, entries_take, entries_of_all}
+use Rattle.journal.proofs.LayoutLaws.{length_entry, length_header, length_all, entries_split, entries_take, entries_of_all}
 
 -- parts of a list before and at what is written
 take_before : {X : Type 0} (t : List X) (at : ℕ) (es : List X) (k : ℕ) → k ≤ at → at ≤ length t → take k (written t at es) ≡ take k t
@@ -27,11 +28,11 @@ unfolding written
 drop_written_at t at es h = drop_at (take at t) (es ++ drop (at + length es) t) at (length-take-le at t h)
 
 -- a head, its containers and the header, written one after the other
-pub request_grown : (b : List ℕ) (n q : ℕ) (h : Entry) (cs : List Entry) (free : ℕ) (b₁ b₂ b₃ : List ℕ) → entry_offset n + entry_size * (length cs + 1) ≤ length b → free ≡ entry_offset n
-    → b₁ ≡ written b free (entry_bytes h) → b₂ ≡ written b₁ (free + entry_size) (all_bytes cs) → b₃ ≡ written b₂ 0 (header_bytes (n + (length cs + 1)) (q + 1)) → b₃ ≡ grown b n q (h ∷ cs)
-request_grown b n q h cs free b₁ b₂ b₃ room a e f g =
+pub request_grown : (b : List ℕ) (n q : ℕ) (h : Entry) (cs : List Entry) (free : ℕ) (x b₁ b₂ b₃ : List ℕ) → entry_offset n + entry_size * (length cs + 1) ≤ length b → free ≡ entry_offset n
+    → x ≡ entry_bytes h → b₁ ≡ written b free x → b₂ ≡ written b₁ (free + entry_size) (all_bytes cs) → b₃ ≡ written b₂ 0 (header_bytes (n + (length cs + 1)) (q + 1)) → b₃ ≡ grown b n q (h ∷ cs)
+request_grown b n q h cs free x b₁ b₂ b₃ room a d e f g =
     let two : b₂ ≡ written b (entry_offset n) (all_bytes (h ∷ cs)) =
-    rw (f, e, a) (written_next b (entry_offset n) (entry_bytes h) (all_bytes cs) (entry_offset n + entry_size) (omega arith) (omega (arith, length_entry h))) in
+    rw (f, e, a, d) (written_next b (entry_offset n) (entry_bytes h) (all_bytes cs) (entry_offset n + entry_size) (omega arith) (omega (arith, length_entry h))) in
     let i : n + (length cs + 1) ≡ n + suc (length cs) = omega arith in
     g ∙ (ap (λ x. written x 0 (header_bytes (n + (length cs + 1)) (q + 1))) two ∙ ap (λ m. written (written b (entry_offset n) (all_bytes (h ∷ cs))) 0 (header_bytes m (q + 1))) i)
 
@@ -80,6 +81,6 @@ module _ (bs : List ℕ) (n q : ℕ) (es : List Entry) (room : entry_offset n + 
       let all : take (entry_size * (n + length es)) (drop header_size (grown bs n q es)) ≡ all_bytes (old ++ es) =
       ap (take (entry_size * (n + length es))) drop_grown
       ∙ (take_written (drop header_size bs) (entry_size * n) (all_bytes es) (entry_size * (n + length es)) k (omega (arith, length_all es))
-      ∙ (ap (λ x. x ++ all_bytes es) olds ∙ sym (all_append old es))) in
+      ∙ (ap (λ x. x ++ all_bytes es) olds ∙ sym (flat_map-append entry_bytes old es))) in
       let c : n + length es ≡ length (old ++ es) = ap (λ x. x + length es) e ∙ sym (length-append old es) in
       split ∙ (ap (λ x. hd ++ x) all ∙ ap (λ m. header_bytes m (q + 1) ++ all_bytes (old ++ es)) c)

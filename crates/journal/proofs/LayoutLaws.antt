@@ -1,16 +1,22 @@
 -- Entries and the header as bytes: written, read back, and written again.
-use Rattle.std.proofs.Common.{◌≡◌, ℕ, zero, suc, ◌+◌, ◌-◌, ◌*◌, ◌/◌, ◌<◌, ◌≤◌, List, [], ◌∷◌, ◌++◌, length, get_or, take, drop, Some, sym, refl, ap, ◌∙◌, append_assoc, not-suc-le-zero, add_comm, suc-add, mul-zero, zero-add, mul-suc, arith, take-add}
+use Rattle.std.proofs.Common.{◌≡◌, ℕ, zero, suc, ◌+◌, ◌-◌, ◌*◌, ◌/◌, ◌<◌, ◌≤◌, List, [], ◌∷◌, ◌++◌, length, map, length-take, get_or, take, drop, sym, refl, ap, ◌∙◌, append_assoc, add_comm, suc-add, zero-add, mul-suc, arith, take-add}
 use native.Mathlib.Nat.{mul-div_right}
-use Rattle.std.specs.List.{AllByRecursion, slice_get}
+use Rattle.std.specs.List.{AllByRecursion}
+use Rattle.std.proofs.lemmas.List.Concat.{flat_map-append}
 use Rattle.std.proofs.ByRecursion.{All-take, All-drop}
-use Rattle.std.proofs.lemmas.List.{drop_at, take-take, drop-take, drop-drop, length-append, length-take-le, length-drop, append-nil, take_more}
+use Rattle.std.proofs.lemmas.List.{drop_all, drop_at, take-take, drop-take, drop-drop, length-append, length-take-le, length-drop, append-nil, take_more}
 use Rattle.entries.specs.declared.entry.Entry.{Entry}
 use Rattle.entries.specs.Written.{written}
 use Rattle.entries.proofs.WrittenLaws.{written_next}
 use Rattle.journal.specs.Codec.{pack, unpack, Fit}
+use Rattle.std.specs.Simd.{first_chunks}
 use Rattle.journal.specs.Layout.{entry_widths, entry_size, fields, of_fields, entry_bytes, entry_of, EntryFits, all_bytes}
-use Rattle.journal.specs.Layout.{header_widths, header_size, header_fields, header_bytes, entry_offset, entries_by, entries_in, listed_by, listed, book_in}
-use Rattle.journal.proofs.CodecLaws.{Bytes, length_be, unpack_pack, unpack_take, pack_unpack, words, unpack_words, writes, writes_pack}
+use Rattle.journal.specs.Layout.{header_widths, header_size, header_fields, header_bytes, entry_offset, entries_by, entries_in, book_in}
+use Rattle.journal.proofs.CodecLaws.{Bytes, length_be, unpack_pack, unpack_take, pack_unpack, words, unpack_words, reads, words_read, writes, writes_pack}
+
+written_whole : (t xs : List ℕ) → length xs ≡ length t → written t 0 xs ≡ xs
+unfolding written
+written_whole t xs h = rw (drop_all (0 + length xs) t (omega arith), append-nil)
 
 -- one entry
 
@@ -18,13 +24,15 @@ pub length_entry : (e : Entry) → length (entry_bytes e) ≡ entry_size
 unfolding entry_bytes
 length_entry e = simp (length-append, length_be)
 
-pub entry_bytes_writes : (t : List ℕ) (e : Entry) → entry_size ≤ length t → writes 0 entry_widths (fields e) t ≡ written t 0 (entry_bytes e)
+pub entry_writes : (t : List ℕ) (e : Entry) → length t ≡ entry_size → writes 0 entry_widths (fields e) t ≡ entry_bytes e
 unfolding entry_bytes
-entry_bytes_writes t e h = writes_pack 0 entry_widths (fields e) t h
+entry_writes t e h =
+    let l : length (pack entry_widths (fields e)) ≡ length t = simp (length-append, length_be) (sym h) in
+    writes_pack 0 entry_widths (fields e) t (omega arith) ∙ written_whole t (pack entry_widths (fields e)) l
 
-pub entry_of_words : (bs : List ℕ) → entry_of bs ≡ of_fields (words 0 entry_widths bs)
+pub entry_reads : (bs : List ℕ) → entry_size ≤ length bs → entry_of bs ≡ of_fields (reads 0 entry_widths bs)
 unfolding entry_of
-entry_of_words bs = ap of_fields (unpack_words 0 entry_widths bs)
+entry_reads bs h = ap of_fields (unpack_words 0 entry_widths bs ∙ words_read 0 entry_widths bs h)
 
 -- an entry whose fields fit is read back, whatever follows it
 pub entry_of_bytes : (e : Entry) (more : List ℕ) → EntryFits e → entry_of (entry_bytes e ++ more) ≡ e
@@ -71,33 +79,21 @@ pub length_all : (es : List Entry) → length (all_bytes es) ≡ entry_size * le
 length_all [] = refl
 length_all (e ∷ es) = length-append (entry_bytes e) (all_bytes es) ∙ omega (arith, length_entry e, length_all es)
 
-pub all_append : (es fs : List Entry) → all_bytes (es ++ fs) ≡ all_bytes es ++ all_bytes fs
-all_append [] fs = refl
-all_append (e ∷ es) fs = ap (λ x. entry_bytes e ++ x) (all_append es fs) ∙ sym (append_assoc (entry_bytes e) (all_bytes es) (all_bytes fs))
-
 -- one more entry written behind others
-pub append_more : (b : List ℕ) (at : ℕ) (es : List Entry) (i : ℕ) (d : Entry) (b₁ : List ℕ) (to : ℕ) (b₂ : List ℕ) → i < length es → at + entry_size * length es ≤ length b
-    → b₁ ≡ written b at (all_bytes (take i es)) → to ≡ at + entry_size * i → b₂ ≡ written b₁ to (entry_bytes (get_or es i d)) → b₂ ≡ written b at (all_bytes (take (i + 1) es))
-append_more b at es i d b₁ to b₂ lt room e f g =
+pub append_more : (b : List ℕ) (at : ℕ) (es : List Entry) (i : ℕ) (d : Entry) (b₁ x b₂ : List ℕ) → i < length es → at + entry_size * length es ≤ length b
+    → b₁ ≡ written b at (all_bytes (take i es)) → x ≡ entry_bytes (get_or es i d) → b₂ ≡ written b₁ (at + entry_size * i) x → b₂ ≡ written b at (all_bytes (take (i + 1) es))
+append_more b at es i d b₁ x b₂ lt room e f g =
     let l : length (take i es) ≡ i = length-take-le i es (omega arith) in
     let a : all_bytes (take (i + 1) es) ≡ all_bytes (take i es) ++ entry_bytes (get_or es i d) =
-    ap all_bytes (take_more es i d lt) ∙ (all_append (take i es) (get_or es i d ∷ []) ∙ ap (λ x. all_bytes (take i es) ++ x) (append-nil (entry_bytes (get_or es i d)))) in
-    g ∙ (ap (λ x. written x to (entry_bytes (get_or es i d))) e
-    ∙ (written_next b at (all_bytes (take i es)) (entry_bytes (get_or es i d)) to (omega arith) (omega (arith, length_all (take i es), l))
+    ap all_bytes (take_more es i d lt) ∙ (flat_map-append entry_bytes (take i es) (get_or es i d ∷ []) ∙ ap (λ x. all_bytes (take i es) ++ x) (append-nil (entry_bytes (get_or es i d)))) in
+    g ∙ (rw (e, f)
+    (written_next b at (all_bytes (take i es)) (entry_bytes (get_or es i d)) (at + entry_size * i) (omega arith) (omega (arith, length_all (take i es), l))
     ∙ ap (written b at) (sym a)))
 
 module _ (size : ℕ) (dec : List ℕ → Entry) where
   pub length_by : (n : ℕ) (bs : List ℕ) → length (entries_by size dec n bs) ≡ n
   length_by zero bs = refl
   length_by (suc n) bs = ap suc (length_by n (drop size bs))
-
-  -- the entry of an index
-  pub nth_by : (n i : ℕ) (bs : List ℕ) → i < n → slice_get (entries_by size dec n bs) i ≡ Some (dec (drop (size * i) bs))
-  nth_by zero i bs h = absurd (not-suc-le-zero h)
-  nth_by (suc n) zero bs h = rw mul-zero
-  nth_by (suc n) (suc i) bs h =
-      let k : size + size * i ≡ size * suc i = add_comm size (size * i) ∙ sym (mul-suc size i) in
-      nth_by n i (drop size bs) (omega arith) ∙ ap (λ x. Some (dec x)) (drop-drop (size * i) size bs ∙ ap (λ m. drop m bs) k)
 
   -- n entries are read from their own bytes alone, if one is
   pub take_by : ((bs : List ℕ) → dec (take size bs) ≡ dec bs) → (n : ℕ) (bs : List ℕ) → entries_by size dec n (take (size * n) bs) ≡ entries_by size dec n bs
@@ -108,19 +104,19 @@ module _ (size : ℕ) (dec : List ℕ → Entry) where
       let e = sym (own (take (size + size * n) bs)) ∙ (ap dec (take-take size (size + size * n) bs h) ∙ own bs) in
       rw (i, e, drop-take size (size * n) bs) (ap (λ x. dec bs ∷ x) (take_by own n (drop size bs)))
 
-  -- bytes of n entries and nothing else
-  pub listed_take_by : 0 < size → ((bs : List ℕ) → dec (take size bs) ≡ dec bs) → (bs : List ℕ) (n : ℕ) → size * n ≤ length bs → listed_by size dec (take (size * n) bs) ≡ entries_by size dec n bs
-  listed_take_by pos own bs n h =
-      let k : length (take (size * n) bs) ≡ size * n = length-take-le (size * n) bs h in
-      let l : length (take (size * n) bs) / size ≡ n = ap (λ x. x / size) k ∙ mul-div_right n pos in
-      rw l (take_by own n bs)
+  -- and so are those that are read one by one
+  pub chunks_by : ((bs : List ℕ) → dec (take size bs) ≡ dec bs) → (n : ℕ) (bs : List ℕ) → map dec (first_chunks size n bs) ≡ entries_by size dec n bs
+  chunks_by own zero bs = refl
+  chunks_by own (suc n) bs = rw (own bs) (ap (λ x. dec bs ∷ x) (chunks_by own n (drop size bs)))
 
 -- the bytes between the header and the free offset of n entries
-pub listed_body : (bs : List ℕ) (n free : ℕ) → free ≡ entry_offset n → free ≤ length bs → listed (take (free - header_size) (drop header_size bs)) ≡ book_in n bs
-listed_body bs n free e h =
+pub chunked_body : (bs : List ℕ) (n free : ℕ) → free ≡ entry_offset n → free ≤ length bs
+    → let body = take (free - header_size) (drop header_size bs) in map entry_of (first_chunks entry_size (length body / entry_size) body) ≡ book_in n bs
+chunked_body bs n free e h =
     let i : free - header_size ≡ entry_size * n = omega arith in
-    let k : entry_size * n ≤ length (drop header_size bs) = simp length-drop (omega arith) in
-    rw i (listed_take_by entry_size entry_of (omega arith) entry_of_take (drop header_size bs) n k)
+    let l : length (take (entry_size * n) (drop header_size bs)) ≡ entry_size * n = simp (length-take, length-drop) (omega arith) in
+    let k : entry_size * n / entry_size ≡ n = mul-div_right n (omega arith) in
+    rw (i, l, k) (chunks_by entry_size entry_of entry_of_take n (take (entry_size * n) (drop header_size bs)) ∙ take_by entry_size entry_of entry_of_take n (drop header_size bs))
 
 pub length_entries : (n : ℕ) (bs : List ℕ) → length (entries_in n bs) ≡ n
 length_entries n bs = length_by entry_size entry_of n bs

@@ -97,13 +97,6 @@ entries_by size dec (suc n) bs = dec bs ∷ entries_by size dec n (drop size bs)
 abbrev pub entries_in : (n : ℕ) → List ℕ → List Entry
 entries_in n bs = entries_by entry_size entry_of n bs
 
--- the entries of bytes that hold nothing else
-abbrev pub listed_by : (size : ℕ) → (List ℕ → Entry) → List ℕ → List Entry
-listed_by size dec bs = entries_by size dec (length bs / size) bs
-
-abbrev pub listed : List ℕ → List Entry
-listed bs = listed_by entry_size entry_of bs
-
 -- a number of the header, by its place
 abbrev pub word : (place : ℕ) → List ℕ → ℕ
 word place bs = value (take word_size (drop place bs))

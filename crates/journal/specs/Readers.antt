@@ -1,14 +1,19 @@
 -- The entries that a reader shows.
-use Rattle.std.specs.Prelude.{ℕ, List, Some, None, Ok, Err, Option, Result}
+use Rattle.std.specs.Prelude.{ℕ, List, map, Some, None, Ok, Err, Option, Result}
 use Rattle.std.specs.List.{slice_get}
 use Rattle.entries.specs.declared.entry.Entry.{Entry}
 use Rattle.journal.specs.declared.fault.Fault.{Fault}
 use Rattle.journal.specs.declared.fault.PastEnd.{PastEnd}
 use Rattle.journal.specs.declared.reader.Reader.{Reader}
-use Rattle.journal.specs.Layout.{listed}
+use Rattle.journal.specs.declared.reader.Entries.{Entries}
+use Rattle.journal.specs.Layout.{entry_of}
 
 abbrev pub shown : Reader → List Entry
-shown d = listed d.body.now
+shown d = map entry_of d.entries.now
+
+-- the entries that are left to come
+abbrev pub left_of : Entries → List Entry
+left_of s = map entry_of s.rest.now
 
 -- a reader's making by what it shows
 abbrev pub answer : Result Reader Fault → Result (List Entry) Fault

@@ -22,6 +22,11 @@ spared bs = word spare_at bs == spare
 abbrev pub entries_told : List ℕ → List Entry
 entries_told bs = book_in (word entries_at bs) bs
 
+-- the requests that entries are, or the place of the first that breaks the form of a request
+abbrev pub placed : Result ℕ ℕ → Result ℕ Fault
+placed (Ok count) = Ok count
+placed (Err index) = Err (Form (entry_offset index))
+
 -- the entries, or the first that breaks the form of a request; the request count is compared last
 abbrev pub counted : (requests : ℕ) → List Entry → Result ℕ ℕ → Result (List Entry) Fault
 counted q es (Ok count) = cond (count == q) (Ok es) (Err RequestCount)

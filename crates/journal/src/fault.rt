@@ -3,36 +3,37 @@ ghost use Rattle.std.specs.Prelude.{◌≡◌};
 ghost use Rattle.journal.specs.Faults.{fault_number, fault_place, past_end_number};
 
 use crate::layout::*;
+use entries::refusal::Numbered;
+use thiserror::Error;
 
 // What is wrong with a journal's bytes.
-#[derive(Clone, Copy, PartialEq, Eq, Debug)]
+#[derive(Clone, Copy, PartialEq, Eq, Debug, Error)]
 pub enum Fault {
-    // too few or too many bytes, with their number
+    #[error("too few or too many bytes: {0}")]
     Length(usize),
-    // the free offset is not that of as many entries, or past the end
+    #[error("the free offset is not that of as many entries, or past the end")]
     FreeOffset,
-    // the spare number is not 0
+    #[error("the spare number is not 0")]
     Spare,
-    // an entry breaks the form of a request, with its offset
+    #[error("the entry at offset {0} breaks the form of a request")]
     Form(usize),
-    // the entries are more or fewer requests than the header says
+    #[error("the entries are more or fewer requests than the header says")]
     RequestCount,
 }
 
-impl Fault {
-    // The number that a caller meets: 11, 12 or 13.
-    pub fn number(self) -> u8
-        ensures { result ≡ fault_number self }
-    {
+impl Numbered for Fault {
+    ghost meant = { fault_number };
+
+    fn number(self) -> u8 {
         match self {
             Fault::Length(_) => 11,
-            Fault::FreeOffset => 12,
-            Fault::Spare => 12,
+            Fault::FreeOffset | Fault::Spare | Fault::RequestCount => 12,
             Fault::Form(_) => 13,
-            Fault::RequestCount => 12,
         }
     }
+}
 
+impl Fault {
     // The place: the length, the offset of the header's number, or that of the entry.
     pub fn place(self) -> usize
         ensures { result ≡ fault_place self }
@@ -48,16 +49,14 @@ impl Fault {
 }
 
 // An index past the last entry.
-#[derive(Clone, Copy, PartialEq, Eq, Debug)]
+#[derive(Clone, Copy, PartialEq, Eq, Debug, Error)]
+#[error("the index is past the last entry")]
 pub struct PastEnd;
 
-impl PastEnd {
-    // The number that a caller meets: 4.
-    pub fn number(self) -> u8
-        ensures { result ≡ past_end_number }
-    {
-        match self {
-            PastEnd => 4,
-        }
+impl Numbered for PastEnd {
+    ghost meant = { λ _. past_end_number };
+
+    fn number(self) -> u8 {
+        4
     }
 }

@@ -1,7 +1,6 @@
 // A journal: a charging function that writes requests into lent bytes.
-ghost use Rattle.std.specs.Prelude.{◌≡◌};
-ghost use Rattle.journal.specs.Journals.{entries_of, places_left, overrides_of, Grown, unmade_journal, NewJournal, reading, Faithful};
-ghost use Rattle.journal.specs.Readers.{answer};
+ghost use Rattle.std.specs.Prelude.{◌≡◌, ◌+◌, ◌≤◌, length};
+ghost use Rattle.journal.specs.Layout.{most_bytes, entry_offset};
 
 use crate::fault::*;
 use crate::layout::*;
@@ -9,7 +8,7 @@ use crate::reader::*;
 use crate::writing::*;
 use entries::entry::*;
 use entries::making::*;
-use entries::request::*;
+use entries::profile::*;
 use entries::taker::*;
 
 #[derive(Drop)]
@@ -18,50 +17,35 @@ pub struct Journal<'a> {
     // how many were taken; the entries are both together
     requests: u32,
     containers: u32,
-    // whether the making was not refused
-    live: bool,
-    overrides: &'a [Override],
-}
-
-// Why a journal with so many overrides and bytes is not made.
-fn unmade(overrides: usize, bytes: usize) -> Option<Unmade>
-    ensures { result ≡ unmade_journal overrides bytes }
-{
-    if overrides > MOST_OVERRIDES {
-        return Some(Unmade::TooManyOverrides);
-    }
-    if bytes < HEADER_SIZE || bytes > MOST_BYTES {
-        return Some(Unmade::WrongLength(bytes));
-    }
-    None
+    profile: Profile<'a>,
+    ghost short: { length bytes.now ≤ most_bytes },
+    ghost within: { entry_offset (requests + containers) ≤ length bytes.now },
 }
 
 impl<'a> Journal<'a> {
+    ghost use Rattle.journal.specs.Journals.{JournalMade, reading, Faithful};
+    ghost use Rattle.journal.specs.Readers.{answer};
+
     // An empty journal over 16 to 1,048,576 lent bytes, with a profile of up to 32 overrides. The making writes the
-    // header alone; a refused one writes nothing.
-    pub fn new(bytes: &'a mut [u8], overrides: &'a [Override]) -> Made<Journal<'a>>
-        ensures { NewJournal bytes.old overrides.now result.refused result.value }
+    // header alone; a refused one writes nothing, and gives the bytes back.
+    pub fn new(
+        bytes: &'a mut [u8],
+        overrides: &'a [Override],
+    ) -> Result<Journal<'a>, Refused<Unmade, &'a mut [u8]>>
+        ensures { JournalMade bytes.old overrides.now result }
     {
-        let refused = unmade(overrides.len(), bytes.len());
-        if refused.is_some() {
-            let value = Journal {
-                bytes,
-                requests: 0,
-                containers: 0,
-                live: false,
-                overrides: &[],
-            };
-            return Made { value, refused };
-        }
+        // not map_err: its closure would keep the bytes from the making
+        let profile = match lend(overrides, bytes.len(), HEADER_SIZE, MOST_BYTES) {
+            Ok(profile) => profile,
+            Err(why) => return Err(Refused { why, left: bytes }),
+        };
         write_header(bytes, 0, 0);
-        let value = Journal {
+        Ok(Journal {
             bytes,
             requests: 0,
             containers: 0,
-            live: true,
-            overrides,
-        };
-        Made { value, refused }
+            profile,
+        })
     }
 
     // A reader of the entries taken.
@@ -69,14 +53,13 @@ impl<'a> Journal<'a> {
         ensures value { answer result ≡ reading self.now }
         ensures back { Faithful self.now (answer result) }
     {
-        if !self.live {
-            return Ok(Reader { body: &[] });
-        }
         Reader::new(self.bytes)
     }
 }
 
-impl<'a> Taker for Journal<'a> {
+impl Taker for Journal<'_> {
+    ghost use Rattle.journal.specs.Journals.{entries_of, places_left, Grown};
+
     ghost book = { entries_of };
 
     ghost room = { places_left };
@@ -84,38 +67,27 @@ impl<'a> Taker for Journal<'a> {
     ghost took = { Grown };
 
     fn intake(&self) -> usize {
-        let length = self.bytes.len();
-        if !self.live || length > MOST_BYTES {
-            return 0;
-        }
         let entries = self.requests as usize + self.containers as usize;
-        length.saturating_sub(entry_offset(entries)) / ENTRY_SIZE
+        (self.bytes.len() - entry_offset(entries)) / ENTRY_SIZE
     }
 
     fn take(&mut self, head: &Entry, containers: &[Entry]) -> Result<(), Declined> {
-        if !request_formed(head, containers) {
-            return Err(Declined::Malformed);
-        }
-        let n = containers.len();
-        if n >= self.intake() {
-            return Err(Declined::IntakeTooSmall);
-        }
+        admit(head, containers, self.intake())?;
         let requests = self.requests;
         let entries = requests + self.containers;
         write_request(self.bytes, entries, requests, head, containers);
         self.requests = requests + 1;
-        self.containers += n as u32;
+        self.containers += containers.len() as u32;
         Ok(())
     }
 }
 
-impl<'a> ChargingFunction for Journal<'a> {
+impl ChargingFunction for Journal<'_> {
+    ghost use Rattle.journal.specs.Journals.{overrides_of};
+
     ghost profile = { overrides_of };
 
     fn override_at(&self, i: usize) -> Option<Override> {
-        if i >= MOST_OVERRIDES || i >= self.overrides.len() {
-            return None;
-        }
-        Some(self.overrides[i])
+        self.profile.get(i)
     }
 }

@@ -1,7 +1,7 @@
 // The layout of a journal: where its numbers stand, and how entries and header are written and read.
 ghost use Rattle.std.specs.Prelude.{◌≡◌, ◌+◌, ◌^◌, ◌<◌, ◌≤◌, length};
 ghost use Rattle.entries.specs.Written.{written};
-ghost use Rattle.journal.specs.Layout.{entry_size, header_size, entry_offset, entry_bytes, entry_of, EntryFits, header_bytes};
+ghost use Rattle.journal.specs.Layout.{entry_size, header_size, entry_offset, entry_bytes, entry_of, EntryFits, header_bytes, word, entries_at, requests_at, free_at, spare_at};
 
 use crate::codec::*;
 use entries::entry::*;
@@ -53,39 +53,49 @@ pub(crate) fn entry_offset(index: usize) -> usize
     HEADER_SIZE + ENTRY_SIZE * index
 }
 
-// Writes an entry at the beginning of `tail`; what lies behind it stays.
-pub(crate) fn write_entry(tail: &mut [u8], e: &Entry)
-    requires { entry_size ≤ length tail.old }
-    ensures bytes { tail.new ≡ written tail.old 0 (entry_bytes e.now) }
-    ensures fits { EntryFits e.now }
+// The bytes of an entry.
+#[tactic(auto, unfolding(crate::specs::Layout::EntryFits))]
+pub(crate) fn entry_bytes(e: Entry) -> [u8; ENTRY_SIZE]
+    ensures bytes { result ≡ entry_bytes e }
+    ensures fits { EntryFits e }
 {
-    put_u8(tail, KIND_AT, e.kind);
-    put_u8(tail, CAUSE_AT, e.cause);
-    put_u16(tail, PERIOD_AT, e.period);
-    put_u32(tail, NUMBER_AT, e.number);
-    put_u32(tail, FROM_AT, e.from);
-    put_u32(tail, TO_AT, e.to);
-    put_u64(tail, CODE_AT, e.code);
-    put_u64(tail, UPLINK_AT, e.uplink.0);
-    put_u64(tail, DOWNLINK_AT, e.downlink.0);
+    let mut bytes = [0; ENTRY_SIZE];
+    put(&mut bytes, KIND_AT, e.kind.to_be_bytes());
+    put(&mut bytes, CAUSE_AT, e.cause.to_be_bytes());
+    put(&mut bytes, PERIOD_AT, e.period.to_be_bytes());
+    put(&mut bytes, NUMBER_AT, e.number.to_be_bytes());
+    put(&mut bytes, FROM_AT, e.from.to_be_bytes());
+    put(&mut bytes, TO_AT, e.to.to_be_bytes());
+    put(&mut bytes, CODE_AT, e.code.to_be_bytes());
+    put(&mut bytes, UPLINK_AT, e.uplink.0.to_be_bytes());
+    put(&mut bytes, DOWNLINK_AT, e.downlink.0.to_be_bytes());
+    bytes
 }
 
-// The entry at the beginning of `bytes`.
-pub(crate) fn read_entry(bytes: &[u8]) -> Entry
-    requires { entry_size ≤ length bytes.now }
+// The entry that bytes write.
+pub(crate) fn read_entry(bytes: &[u8; ENTRY_SIZE]) -> Entry
     ensures { result ≡ entry_of bytes.now }
 {
     Entry {
-        kind: get_u8(bytes, KIND_AT),
-        cause: get_u8(bytes, CAUSE_AT),
-        period: get_u16(bytes, PERIOD_AT),
-        number: get_u32(bytes, NUMBER_AT),
-        from: get_u32(bytes, FROM_AT),
-        to: get_u32(bytes, TO_AT),
-        code: get_u64(bytes, CODE_AT),
-        uplink: Uplink(get_u64(bytes, UPLINK_AT)),
-        downlink: Downlink(get_u64(bytes, DOWNLINK_AT)),
+        kind: u8::from_be_bytes(get(bytes, KIND_AT)),
+        cause: u8::from_be_bytes(get(bytes, CAUSE_AT)),
+        period: u16::from_be_bytes(get(bytes, PERIOD_AT)),
+        number: u32::from_be_bytes(get(bytes, NUMBER_AT)),
+        from: u32::from_be_bytes(get(bytes, FROM_AT)),
+        to: u32::from_be_bytes(get(bytes, TO_AT)),
+        code: u64::from_be_bytes(get(bytes, CODE_AT)),
+        uplink: Uplink(u64::from_be_bytes(get(bytes, UPLINK_AT))),
+        downlink: Downlink(u64::from_be_bytes(get(bytes, DOWNLINK_AT))),
     }
+}
+
+// The numbers of the header.
+#[derive(Clone, Copy)]
+pub(crate) struct Header {
+    pub(crate) entries: u32,
+    pub(crate) requests: u32,
+    pub(crate) free: u32,
+    pub(crate) spare: u32,
 }
 
 // Writes the header of so many entries and requests.
@@ -94,8 +104,25 @@ pub(crate) fn write_header(bytes: &mut [u8], entries: u32, requests: u32)
     requires entries_bound { entry_offset entries < 2 ^ 32 }
     ensures { bytes.new ≡ written bytes.old 0 (header_bytes entries requests) }
 {
-    put_u32(bytes, ENTRIES_AT, entries);
-    put_u32(bytes, REQUESTS_AT, requests);
-    put_u32(bytes, FREE_AT, entry_offset(entries as usize) as u32);
-    put_u32(bytes, SPARE_AT, SPARE);
+    let free = entry_offset(entries as usize) as u32;
+    put(bytes, ENTRIES_AT, entries.to_be_bytes());
+    put(bytes, REQUESTS_AT, requests.to_be_bytes());
+    put(bytes, FREE_AT, free.to_be_bytes());
+    put(bytes, SPARE_AT, SPARE.to_be_bytes());
+}
+
+// The header at the beginning of `bytes`.
+pub(crate) fn read_header(bytes: &[u8]) -> Header
+    requires { header_size ≤ length bytes.now }
+    ensures entries { result.entries ≡ word entries_at bytes.now }
+    ensures requests { result.requests ≡ word requests_at bytes.now }
+    ensures free { result.free ≡ word free_at bytes.now }
+    ensures spare { result.spare ≡ word spare_at bytes.now }
+{
+    Header {
+        entries: u32::from_be_bytes(get(bytes, ENTRIES_AT)),
+        requests: u32::from_be_bytes(get(bytes, REQUESTS_AT)),
+        free: u32::from_be_bytes(get(bytes, FREE_AT)),
+        spare: u32::from_be_bytes(get(bytes, SPARE_AT)),
+    }
 }

@@ -1,43 +1,39 @@
 // A reader of a journal's bytes.
-ghost use Rattle.std.specs.Prelude.{◌≡◌, ◌≤◌, length, drop};
+ghost use Rattle.std.specs.Prelude.{◌≡◌, ◌<◌, ◌^◌, length, map};
+ghost use Rattle.std.specs.Iterator.{YieldsFirst, item_count};
 ghost use Rattle.entries.specs.Sequences.{requests_in};
-ghost use Rattle.journal.specs.Layout.{header_size, entry_offset, entries_in};
-ghost use Rattle.journal.specs.Reading.{read, Meant, Complete};
-ghost use Rattle.journal.specs.Readers.{shown, answer, entry_at};
+ghost use Rattle.journal.specs.Layout.{entry_of};
+ghost use Rattle.journal.specs.Reading.{placed, read, Meant, Complete};
+ghost use Rattle.journal.specs.Readers.{shown, left_of, answer, entry_at};
 
-use crate::codec::*;
 use crate::fault::*;
 use crate::layout::*;
 use entries::entry::*;
 use entries::sequence::*;
 
-// How many requests the first `n` entries are, or the index of the first entry at which they stop being requests.
-fn check_entries(bytes: &[u8], n: u32) -> Result<u32, u32>
-    requires { entry_offset n ≤ length bytes.now }
-    ensures { result ≡ requests_in (entries_in n (drop header_size bytes.now)) }
+// How many requests the entries are, or the first entry at which they stop being requests. The loop is that of
+// count_requests: one for both would take a closure that reads an entry, and is no plainer.
+fn check_entries(entries: &[[u8; ENTRY_SIZE]]) -> Result<usize, Fault>
+    requires { length entries.now < 2 ^ 33 }
+    ensures { result ≡ placed (requests_in (map entry_of entries.now)) }
 {
-    let mut due = 0;
-    let mut begun = 0;
-    for i in 0..n {
-        let e = read_entry(&bytes[entry_offset(i as usize)..]);
-        if !goes_on(due, &e, (n - i - 1) as usize) {
-            return Err(i);
+    let mut sequence = Sequence::of(entries.len());
+    for (i, bytes) in entries.iter().enumerate() {
+        if !sequence.accept(&read_entry(bytes)) {
+            return Err(Fault::Form(entry_offset(i)));
         }
-        if due == 0 {
-            begun += 1;
-        }
-        due = due_after(due, &e);
     }
-    Ok(begun)
+    Ok(sequence.requests)
 }
 
-// The bytes of the entries alone.
+// The bytes of each entry.
 #[derive(Drop)]
 pub struct Reader<'a> {
-    pub(crate) body: &'a [u8],
+    entries: &'a [[u8; ENTRY_SIZE]],
 }
 
 // A reader of the entries alone, where header and entries are those of a journal.
+#[tactic(auto, unfolding(crate::specs::Reading::read))]
 fn open_bytes(bytes: &[u8]) -> Result<Reader<'_>, Fault>
     ensures { answer result ≡ read bytes.now }
 {
@@ -45,24 +41,20 @@ fn open_bytes(bytes: &[u8]) -> Result<Reader<'_>, Fault>
     if length < HEADER_SIZE || length > MOST_BYTES {
         return Err(Fault::Length(length));
     }
-    let entries = get_u32(bytes, ENTRIES_AT);
-    let free = get_u32(bytes, FREE_AT) as usize;
-    if free != entry_offset(entries as usize) || free > length {
+    let header = read_header(bytes);
+    let free = header.free as usize;
+    if free != entry_offset(header.entries as usize) || free > length {
         return Err(Fault::FreeOffset);
     }
-    if get_u32(bytes, SPARE_AT) != SPARE {
+    if header.spare != SPARE {
         return Err(Fault::Spare);
     }
-    let requests = match check_entries(bytes, entries) {
-        Ok(requests) => requests,
-        Err(i) => return Err(Fault::Form(entry_offset(i as usize))),
-    };
-    if requests != get_u32(bytes, REQUESTS_AT) {
+    let (entries, _) = bytes[HEADER_SIZE..free].as_chunks();
+    let requests = check_entries(entries)?;
+    if requests != header.requests as usize {
         return Err(Fault::RequestCount);
     }
-    Ok(Reader {
-        body: &bytes[HEADER_SIZE..free],
-    })
+    Ok(Reader { entries })
 }
 
 impl<'a> Reader<'a> {
@@ -75,21 +67,44 @@ impl<'a> Reader<'a> {
         open_bytes(bytes)
     }
 
+    // The entries, one after the other.
+    pub fn entries(&self) -> Entries<'a>
+        ensures { left_of result ≡ shown self.now }
+    {
+        Entries { rest: self.entries }
+    }
+
     // How many entries there are.
     pub fn count(&self) -> usize
         ensures { result ≡ length (shown self.now) }
     {
-        self.body.len() / ENTRY_SIZE
+        self.entries.len()
     }
 
     // The entry of that index, refused past the last one.
     pub fn entry(&self, i: usize) -> Result<Entry, PastEnd>
         ensures { result ≡ entry_at (shown self.now) i }
     {
-        let count = self.body.len() / ENTRY_SIZE;
-        if i >= count {
-            return Err(PastEnd);
-        }
-        Ok(read_entry(&self.body[ENTRY_SIZE * i..]))
+        self.entries.get(i).map(read_entry).ok_or(PastEnd)
+    }
+}
+
+// The entries that a reader shows, from one on.
+#[derive(Drop)]
+pub struct Entries<'a> {
+    rest: &'a [[u8; ENTRY_SIZE]],
+}
+
+impl Iterator for Entries<'_> {
+    type Item = Entry;
+
+    ghost next_gives = { YieldsFirst left_of };
+
+    ghost remaining = { item_count left_of };
+
+    fn next(&mut self) -> Option<Entry> {
+        let (first, rest) = self.rest.split_first()?;
+        self.rest = rest;
+        Some(read_entry(first))
     }
 }

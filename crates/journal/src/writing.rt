@@ -2,30 +2,20 @@
 ghost use Rattle.std.specs.Prelude.{◌≡◌, ◌+◌, ◌*◌, ◌≤◌, ◌∷◌, length};
 ghost use Rattle.std.specs.List.{AllByRecursion};
 ghost use Rattle.entries.specs.Written.{written};
-ghost use Rattle.journal.specs.Layout.{entry_size, most_bytes, entry_offset, entry_bytes, EntryFits, all_bytes, grown};
+ghost use Rattle.journal.specs.Layout.{entry_size, most_bytes, entry_offset, EntryFits, all_bytes, grown};
 
+use crate::codec::*;
 use crate::layout::*;
 use entries::entry::*;
 
-// Writes an entry into the part of the bytes that begins at `at`.
-fn write_at(bytes: &mut [u8], at: usize, e: &Entry)
-    requires { at + entry_size ≤ length bytes.old }
-    ensures bytes { bytes.new ≡ written bytes.old at (entry_bytes e.now) }
-    ensures fits { EntryFits e.now }
-{
-    write_entry(&mut bytes[at..], e);
-}
-
-// Writes entries one after the other.
-fn write_all_at(bytes: &mut [u8], at: usize, es: &[Entry])
+// Writes entries one after the other, from the place `at` on.
+fn write_entries(bytes: &mut [u8], at: usize, es: &[Entry])
     requires { at + entry_size * length es.now ≤ length bytes.old }
     ensures bytes { bytes.new ≡ written bytes.old at (all_bytes es.now) }
     ensures fits { AllByRecursion EntryFits es.now }
 {
-    let mut to = at;
-    for e in es {
-        write_at(bytes, to, e);
-        to += ENTRY_SIZE;
+    for (i, e) in es.iter().enumerate() {
+        put(bytes, at + ENTRY_SIZE * i, entry_bytes(*e));
     }
 }
 
@@ -44,7 +34,7 @@ pub(crate) fn write_request(
     ensures fits { AllByRecursion EntryFits (head.now ∷ containers.now) }
 {
     let free = entry_offset(entries as usize);
-    write_at(bytes, free, head);
-    write_all_at(bytes, free + ENTRY_SIZE, containers);
+    put(bytes, free, entry_bytes(*head));
+    write_entries(bytes, free + ENTRY_SIZE, containers);
     write_header(bytes, entries + (containers.len() as u32 + 1), requests + 1);
 }

@@ -1,14 +1,12 @@
 // Replays a list of calls from standard input on a session, and prints what each call answered, then the book.
 #![tactic(auto)]
 
-use calllist::play::Ended;
 use calllist::run::replay;
 use std::process::ExitCode;
 
 fn main(rt: HostRuntime) -> ExitCode {
     match replay(&rt) {
         Ok(()) => ExitCode::SUCCESS,
-        Err(Ended::Stopped(_)) => ExitCode::FAILURE,
-        Err(Ended::Owed(_)) => unreachable(),
+        Err(_) => ExitCode::FAILURE,
     }
 }

@@ -1,14 +1,12 @@
 // The program replay once more, for its stored run of an offline only session.
 #![tactic(auto)]
 
-use calllist::play::Ended;
 use calllist::run::replay;
 use std::process::ExitCode;
 
 fn main(rt: HostRuntime) -> ExitCode {
     match replay(&rt) {
         Ok(()) => ExitCode::SUCCESS,
-        Err(Ended::Stopped(_)) => ExitCode::FAILURE,
-        Err(Ended::Owed(_)) => unreachable(),
+        Err(_) => ExitCode::FAILURE,
     }
 }

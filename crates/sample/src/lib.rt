@@ -2,12 +2,11 @@
 // reports around a tariff change, and the end.
 #![tactic(auto)]
 
-ghost use Rattle.std.specs.Prelude.{◌≡◌, ℕ, IfErr};
+ghost use Rattle.std.specs.Prelude.{◌≡◌, ℕ, Ok};
 ghost use Rattle.session.specs.Slips.{Spendable};
 ghost use Rattle.session.specs.View.{view};
-ghost use Rattle.sample.specs.declared.Stop.TheVariants.{Failed};
-ghost use Rattle.sample.specs.Stops.{IsSettled};
 
+use anyhow::{Result, bail, ensure};
 use entries::entry::*;
 use entries::key::*;
 use entries::method::*;
@@ -21,105 +20,86 @@ use std::alloc::Global;
 
 const CHARGING_ID: u32 = 7;
 
-// What goes wrong: a making or a call is refused, with its number; an answer is not the expected one; printing fails.
-#[derive(Clone, Copy)]
-pub enum Failure {
-    Refused(u8),
-    Unexpected,
-    Output,
-}
-
-// What ends the program early: a failure, or a slip that not even a shelving took back.
-pub enum Stop {
-    Failed(Failure),
-    Owed(Slip),
-}
-
-impl From<Failure> for Stop {
-    ghost from_gives = { λ why stop. stop ≡ Failed why };
-
-    fn from(why: Failure) -> Stop {
-        Stop::Failed(why)
-    }
-}
-
-impl From<Refusal> for Failure {
-    fn from(why: Refusal) -> Failure {
-        Failure::Refused(why.number())
-    }
-}
+// The key of the line.
+pub const KEY: ServiceKey = ServiceKey {
+    rating_group: 10,
+    service_id: None,
+};
 
 // An answer that closed so many containers and reported nothing.
-fn expect(answer: Reported, closed: usize) -> Result<(), Failure> {
-    if answer.closed == closed && answer.due == Due::Nothing {
-        Ok(())
-    } else {
-        Err(Failure::Unexpected)
-    }
+fn expect(answer: Reported, closed: usize) -> Result<()> {
+    ensure!(
+        answer.closed == closed && answer.due == Due::Nothing,
+        "another answer than expected"
+    );
+    Ok(())
 }
 
-// The calls between opening and finish. They leave the slip as it is.
-fn count<F: Taker>(session: &mut Session<Converged>, function: &mut F) -> Result<(), Failure>
+// The calls between opening and finish, where the opening met no profile. They leave the slip as it is.
+fn count<F: Taker>(session: &mut Session<Converged>, opened: Opened, function: &mut F) -> Result<()>
     ensures { (slip : ℕ) → Spendable (view session.old.ledger) slip 140 → Spendable (view session.new.ledger) slip 140 }
 {
-    let key = ServiceKey {
-        rating_group: 10,
-        service_id: None,
-    };
-    expect(session.start(key, 100, function)?, 0)?;
-    expect(session.usage(key, 500, 1500, 110, function)?, 0)?;
-    expect(session.change(TARIFF_TIME, 120, function)?, 1)?;
-    expect(session.usage(key, 200, 0, 130, function)?, 0)
+    ensure!(
+        opened.applied == 0 && opened.passed == 0,
+        "a profile was applied"
+    );
+    expect(session.start(KEY, 100, function)?, 0)?;
+    expect(session.usage(KEY, 500, 1500, 110, function)?, 0)?;
+    expect(
+        session.change(Trigger::TariffTime.number(), 120, function)?,
+        1,
+    )?;
+    expect(session.usage(KEY, 200, 0, 130, function)?, 0)
 }
 
-// Gives the slip back where the session cannot be finished, and hands on why.
-pub fn give_up(session: &mut Session<Converged>, slip: Slip, why: Failure) -> Stop
-    ensures { Spendable (view session.old.ledger) slip.id 140 → IsSettled result }
+// Gives the slip back where the session cannot be finished; it stays with the caller where not even a shelving takes it.
+pub fn give_up(session: &mut Session<Converged>, slip: Slip) -> Result<(), Slip>
+    ensures { Spendable (view session.old.ledger) slip.id 140 → result ≡ Ok tt }
 {
     match session.shelve(140, slip) {
-        Ok(_) => Stop::Failed(why),
-        Err((_, slip)) => Stop::Owed(slip),
+        Ok(_) => Ok(()),
+        Err((_, slip)) => Err(slip),
     }
 }
 
-// The session from its opening to its end.
+// Gives the slip of a session back that is open until the end.
+fn put_back(session: &mut Session<Converged>, slip: Slip)
+    requires { Spendable (view session.old.ledger) slip.id 140 }
+{
+    match give_up(session, slip) {
+        Ok(()) => {}
+        Err(_) => unreachable!(),
+    }
+}
+
+// The session from its opening to its end. An error leaves no slip behind.
 pub fn charge<F: ChargingFunction>(
     session: &mut Session<Converged>,
     function: &mut F,
-) -> Result<(), Stop>
-    ensures { IfErr result IsSettled }
-{
-    let (opened, slip) = match session.open(100, function) {
-        Ok(answer) => answer,
-        Err(why) => return Err(Stop::Failed(why.into())),
-    };
-    if opened.applied != 0 || opened.passed != 0 {
-        return Err(give_up(session, slip, Failure::Unexpected));
+) -> Result<()> {
+    let (opened, slip) = session.open(100, function)?;
+    if let Err(why) = count(session, opened, function) {
+        put_back(session, slip);
+        return Err(why);
     }
-    if let Err(why) = count(session, function) {
-        return Err(give_up(session, slip, why));
-    }
-    match session.finish(SESSION_END, 140, slip, function) {
+    match session.finish(Trigger::SessionEnd.number(), 140, slip, function) {
         Ok(2) => Ok(()),
-        Ok(_) => Err(Stop::Failed(Failure::Unexpected)),
-        Err((why, slip)) => Err(give_up(session, slip, why.into())),
+        Ok(_) => bail!("another number of containers than expected"),
+        Err((why, slip)) => {
+            put_back(session, slip);
+            Err(why.into())
+        }
     }
 }
 
-pub fn make_session(heap: Global) -> Result<Session<Converged>, Failure> {
-    let made = Session::new(heap, Converged, CHARGING_ID, NO_LIMITS);
-    match made.refused {
-        Some(why) => Err(Failure::Refused(why.number())),
-        None => Ok(made.session),
-    }
+pub fn make_session(heap: Global) -> Result<Session<Converged>> {
+    Ok(Session::new(heap, Converged, CHARGING_ID, NO_LIMITS)?)
 }
 
 // An entry a line, its fields in the order of the layout.
-pub fn show(rt: &impl Print, entries: &[Entry]) -> Result<(), Failure> {
+pub fn show(rt: &impl Print, entries: &[Entry]) -> Result<()> {
     for e in entries {
-        if println!(rt; "{e}").is_err() {
-            return Err(Failure::Output);
-        }
+        println!(rt; "{e}")?;
     }
     Ok(())
 }

@@ -7,29 +7,30 @@ ghost use Rattle.session.specs.Answers.{number, not_made_number};
 use entries::refusal::Numbered;
 use entries::trigger::NoTrigger;
 use std::alloc::AllocError;
+use thiserror::Error;
 
 // Why a call is refused. The first that holds is answered, in the order of the numbers.
-#[derive(Clone, Copy, PartialEq, Eq, Debug)]
+#[derive(Clone, Copy, PartialEq, Eq, Debug, Error)]
 pub enum Refusal {
-    // the call is not for a session in this phase
+    #[error("the call is not for a session in this phase")]
     WrongPhase = 1,
-    // the slip has another charging id
+    #[error("the slip has another charging id")]
     OtherSlip,
-    // the time is before that of the last accepted call
+    #[error("the time is before that of the last accepted call")]
     Early,
-    // an argument is out of range, or the method lacks the trigger
+    #[error("an argument is out of range, or the method lacks the trigger")]
     OutOfRange,
-    // a start of a line that is active
+    #[error("a start of a line that is active")]
     LineActive,
-    // the key has no active line
+    #[error("the key has no active line")]
     NoActiveLine,
-    // a new key where 32 lines are known
+    #[error("a new key where 32 lines are known")]
     TooManyLines,
-    // a total, a tariff period or a container number would be too large
+    #[error("a total, a tariff period or a container number would be too large")]
     TooLarge,
-    // more containers than may wait
+    #[error("more containers than may wait")]
     WaitingFull,
-    // head and containers are more entries than the taker's intake
+    #[error("head and containers are more entries than the taker's intake")]
     IntakeTooSmall,
 }
 
@@ -52,11 +53,11 @@ impl From<NoTrigger> for Refusal {
 }
 
 // Why a session is not made.
-#[derive(Clone, Copy, PartialEq, Eq, Debug)]
+#[derive(Clone, Copy, PartialEq, Eq, Debug, Error)]
 pub enum NotMade {
-    // a threshold is too large
+    #[error("a threshold is too large")]
     OutOfRange = 4,
-    // there is no memory for its lines and containers
+    #[error("there is no memory for its lines and containers")]
     NoMemory = 14,
 }
 

@@ -2,11 +2,11 @@
 // the arguments. Prints how many reports were accepted.
 #![tactic(auto)]
 
-ghost use Rattle.std.specs.Prelude.{ℕ, IfErr};
+ghost use Rattle.std.specs.Prelude.{ℕ};
 ghost use Rattle.session.specs.Slips.{Spendable};
 ghost use Rattle.session.specs.View.{view};
-ghost use Rattle.sample.specs.Stops.{IsSettled};
 
+use anyhow::{Context, Result};
 use entries::book::*;
 use entries::entry::*;
 use entries::key::*;
@@ -21,32 +21,20 @@ use std::process::ExitCode;
 // The book takes the Initial and the Termination with a container for each line.
 const PLACES: usize = 64;
 
-// So many lines and reports, from the arguments; none where these are no such numbers.
+// So many lines and reports.
 #[derive(Clone, Copy)]
 struct Load {
     lines: u32,
     reports: u64,
 }
 
+// The load from the arguments; none where these are no such numbers.
 fn read_load(rt: &HostRuntime) -> Option<Load> {
-    let mut lines: u32 = 8;
-    let mut reports: u64 = 1000;
-    let mut at: u8 = 0;
-    let Ok(args) = env::args(rt) else {
-        return None;
-    };
-    for word in args {
-        match at {
-            1 => lines = word.parse::<u32>().unwrap_or(0),
-            2 => reports = word.parse::<u64>().unwrap_or(0),
-            _ => {}
-        }
-        at = at.saturating_add(1);
-    }
-    if lines == 0 || lines > 32 {
-        return None;
-    }
-    Some(Load { lines, reports })
+    let mut words = env::args(rt).ok()?.skip(1);
+    let lines = words.next().map_or(Some(8), |word| word.parse().ok())?;
+    let reports = words.next().map_or(1000, |word| word.parse().unwrap_or(0));
+    let load = Load { lines, reports };
+    (1..=32).contains(&lines).then_some(load)
 }
 
 fn line_key(n: u32) -> ServiceKey {
@@ -56,55 +44,45 @@ fn line_key(n: u32) -> ServiceKey {
     }
 }
 
-// Starts the lines, and counts the reports on them in turn; how many were accepted. They leave the slip as it is.
-fn count_reports<T: Taker>(session: &mut Session<Converged>, load: &Load, taker: &mut T) -> u64
+// Starts the lines. The slip stays as it is.
+fn start_lines<T: Taker>(session: &mut Session<Converged>, load: &Load, taker: &mut T)
     ensures { (slip : ℕ) → Spendable (view session.old.ledger) slip 140 → Spendable (view session.new.ledger) slip 140 }
 {
     for n in 0..load.lines {
         let _ = session.start(line_key(n), 1, taker);
     }
+}
+
+// Counts the reports on the lines in turn; how many were accepted. The slip stays as it is.
+fn count_reports<T: Taker>(session: &mut Session<Converged>, load: &Load, taker: &mut T) -> u64
+    ensures { (slip : ℕ) → Spendable (view session.old.ledger) slip 140 → Spendable (view session.new.ledger) slip 140 }
+{
     let mut accepted: u64 = 0;
-    let mut n: u32 = 0;
-    for _ in 0..load.reports {
-        if session.usage(line_key(n), 1, 2, 2, taker).is_ok() {
-            accepted = accepted.wrapping_add(1);
-        }
-        n = n.wrapping_add(1);
-        if n >= load.lines {
-            n = 0;
-        }
+    for (_, n) in (0..load.reports).zip((0..load.lines).cycle()) {
+        let is_accepted = session.usage(line_key(n), 1, 2, 2, taker).is_ok();
+        accepted = accepted.wrapping_add(u64::from(is_accepted));
     }
     accepted
 }
 
-fn run(rt: &HostRuntime) -> Result<(), Stop>
-    ensures { IfErr result IsSettled }
-{
-    let Some(load) = read_load(rt) else {
-        return Err(Stop::Failed(Failure::Unexpected));
-    };
+fn run(rt: &HostRuntime) -> Result<()> {
+    let load = read_load(rt).context("lines and reports")?;
     let mut session = make_session(rt.alloc())?;
     let mut table = [BLANK_ENTRY; PLACES];
-    let mut book = Book::new(&mut table, &[]).value;
-    let (_, slip) = match session.open(1, &mut book) {
-        Ok(answer) => answer,
-        Err(why) => return Err(Stop::Failed(Failure::Refused(why.number()))),
-    };
+    let mut book = Book::new(&mut table, &[])?;
+    let (_, slip) = session.open(1, &mut book)?;
+    start_lines(&mut session, &load, &mut book);
     let accepted = count_reports(&mut session, &load, &mut book);
-    if let Err((why, slip)) = session.finish(SESSION_END, 3, slip, &mut book) {
-        let why = Failure::Refused(why.number());
-        return Err(give_up(&mut session, slip, why));
+    if let Err((why, slip)) = session.finish(Trigger::SessionEnd.number(), 3, slip, &mut book) {
+        return match give_up(&mut session, slip) {
+            Ok(()) => Err(why.into()),
+            Err(_) => unreachable!(),
+        };
     }
-    if println!(rt; "{accepted} reports").is_err() {
-        return Err(Stop::Failed(Failure::Output));
-    }
+    println!(rt; "{accepted} reports")?;
     Ok(())
 }
 
 fn main(rt: HostRuntime) -> ExitCode {
-    match run(&rt) {
-        Ok(()) => ExitCode::SUCCESS,
-        Err(Stop::Failed(_)) => ExitCode::FAILURE,
-        Err(Stop::Owed(_)) => unreachable(),
-    }
+    run(&rt).map_or(ExitCode::FAILURE, |()| ExitCode::SUCCESS)
 }

@@ -1,13 +1,14 @@
 use Rattle.std.proofs.Common.{refl, arith}
-use Rattle.session.specs.Slips.{Spendable}
-use Rattle.session.specs.View.{view}
 use Rattle.session.proofs.Staying.{opens_with}
 use Rattle.sample.proofs.charge.Goals as goal
 
-pub returns-in-Err-finish : goal.returns-in-Err-finish
-returns-in-Err-finish g c =
+pub put_back-requires : goal.put_back-requires
+put_back-requires g c =
+    c.count.ensures _
+    (opens_with _ _ _ _ _ _ _ _ c.in_ok-opened.ensures.does refl _ 140 c.in_ok-opened.ensures.handed (omega arith))
+
+pub put_back-requires-in-Err-finish : goal.put_back-requires-in-Err-finish
+put_back-requires-in-Err-finish g c =
     let e = c.in-Err-finish.ensures in
-    let spendable = opens_with _ _ _ _ _ _ _ _ c.in-Ok.ensures.does refl _ 140 c.in-Ok.ensures.handed (omega arith) in
-    let left = c.count.ensures _ spendable in
-    let kept : Spendable (view c.finish.new.self.ledger) c.in-Err-finish.slip.id 140 = rw (e.refused refl).0 (rw e.back left) in
-    c.give_up-in-Err-finish.ensures kept
+    rw (e.refused refl).0 (rw e.back (c.count.ensures _
+    (opens_with _ _ _ _ _ _ _ _ c.in_ok-opened.ensures.does refl _ 140 c.in_ok-opened.ensures.handed (omega arith))))

@@ -5,6 +5,3 @@ use Rattle.speed.proofs.count_reports.Given as goal
 
 abbrev pub invariant-loop-n : goal.invariant-loop-n
 invariant-loop-n g l = (slip : ℕ) → Spendable (view l.fn.session.ledger) slip 140 → Spendable (view l.session.ledger) slip 140
-
-abbrev pub invariant-loop : goal.invariant-loop
-invariant-loop g l = (slip : ℕ) → Spendable (view l.fn.session.ledger) slip 140 → Spendable (view l.session.ledger) slip 140

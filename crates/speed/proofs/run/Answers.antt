@@ -4,9 +4,12 @@ use Rattle.session.specs.View.{view}
 use Rattle.session.proofs.Staying.{opens_with}
 use Rattle.speed.proofs.run.Goals as goal
 
-pub returns-in-Err-finish : goal.returns-in-Err-finish
-returns-in-Err-finish c =
-    let e = c.in-Err-finish.ensures in
-    let left = c.count_reports-accepted.ensures _ (opens_with _ _ _ _ _ _ _ _ c.in-Ok.ensures.does refl _ 140 c.in-Ok.ensures.handed (omega arith)) in
-    let kept : Spendable (view c.finish.new.self.ledger) c.in-Err-finish.slip.id 140 = rw (e.refused refl).0 (rw e.back left) in
-    c.give_up.ensures kept
+pub unreachable-requires : goal.unreachable-requires
+unreachable-requires c =
+    let e = c.in-Err.ensures in
+    let opened = opens_with _ _ _ _ _ _ _ _ c.in_ok-slip.ensures.does refl _ 140 c.in_ok-slip.ensures.handed (omega arith) in
+    let counted = c.count_reports-accepted.ensures _ (c.start_lines.ensures _ opened) in
+    let kept : Spendable (view c.finish.new.self.ledger) c.in-Err.slip.id 140 = rw (e.refused refl).0 (rw e.back counted) in
+    let taken = c.give_up.ensures kept in
+    let was = c.in-Err-give_up.is in
+    cc

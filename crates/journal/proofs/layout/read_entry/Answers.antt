@@ -1,5 +1,6 @@
-use Rattle.journal.proofs.LayoutLaws.{entry_of_words}
+use Rattle.std.proofs.Common.{arith}
+use Rattle.journal.proofs.LayoutLaws.{entry_reads}
 use Rattle.journal.proofs.layout.read_entry.Goals as goal
 
 pub returns : goal.returns
-returns c = cc (entry_of_words c.args.bytes.now)
+returns c = cc (entry_reads c.args.bytes.now (omega arith))

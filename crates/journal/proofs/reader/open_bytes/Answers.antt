@@ -1,32 +1,28 @@
 use Rattle.std.proofs.Common.{arith}
 use Rattle.std.proofs.lemmas.Bool.Decides.{nat_tests}
+use Rattle.std.proofs.lemmas.Grind.{common_steps}
+use Rattle.journal.specs.Layout.{word, requests_at}
 use Rattle.journal.specs.Reading.{read}
-use Rattle.journal.proofs.LayoutLaws.{listed_body}
+use Rattle.journal.proofs.ReadingLaws.{counted_read}
 use Rattle.journal.proofs.reader.open_bytes.Goals as goal
 
-pub returns-then-length-lt-HEADER_SIZE : goal.returns-then-length-lt-HEADER_SIZE
+pub returns-in_err-requests : goal.returns-in_err-requests
 unfolding read
-returns-then-length-lt-HEADER_SIZE c = grind (arith, nat_tests)
+returns-in_err-requests c =
+    let h = counted_read c.args.bytes.now c.read_header-header.result.entries c.read_header-header.result.free (word requests_at c.args.bytes.now) _ _
+    (omega arith) (omega arith) c.as_chunks.ensures.front c.in_err-requests.ensures in
+    grind (arith, nat_tests, common_steps)
 
-pub returns-then-free-entry_offset : goal.returns-then-free-entry_offset
+pub returns-then-requests-header : goal.returns-then-requests-header
 unfolding read
-returns-then-free-entry_offset c = grind (arith, nat_tests)
-
-pub returns-then-get_u32-ne-SPARE : goal.returns-then-get_u32-ne-SPARE
-unfolding read
-returns-then-get_u32-ne-SPARE c = grind (arith, nat_tests)
-
-pub returns-in-Err : goal.returns-in-Err
-unfolding read
-returns-in-Err c = let h = c.in-Err.ensures in grind (arith, nat_tests)
-
-pub returns-then-requests-get_u32 : goal.returns-then-requests-get_u32
-unfolding read
-returns-then-requests-get_u32 c = let h = c.in-Ok.ensures in grind (arith, nat_tests)
+returns-then-requests-header c =
+    let h = counted_read c.args.bytes.now c.read_header-header.result.entries c.read_header-header.result.free (word requests_at c.args.bytes.now) _ _
+    (omega arith) (omega arith) c.as_chunks.ensures.front c.in_ok-requests.ensures in
+    grind (arith, nat_tests)
 
 pub returns : goal.returns
 unfolding read
 returns c =
-    let e = listed_body c.args.bytes.now c.get_u32-entries.result c.get_u32-free.result (omega arith) (omega arith) in
-    let h = c.in-Ok.ensures in
-    rw e (grind (arith, nat_tests))
+    let h = counted_read c.args.bytes.now c.read_header-header.result.entries c.read_header-header.result.free (word requests_at c.args.bytes.now) _ _
+    (omega arith) (omega arith) c.as_chunks.ensures.front c.in_ok-requests.ensures in
+    grind (arith, nat_tests)

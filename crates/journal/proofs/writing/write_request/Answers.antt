@@ -2,10 +2,7 @@ use Rattle.std.proofs.Common.{arith}
 use Rattle.journal.proofs.GrowthLaws.{request_grown}
 use Rattle.journal.proofs.writing.write_request.Goals as goal
 
-pub returns : goal.returns
-returns c = record {
-  bytes =
-      request_grown c.args.bytes.now c.args.entries c.args.requests c.args.head.now c.args.containers.now _ _ _ _
-      (omega arith) c.entry_offset-free.ensures c.write_at.ensures.bytes c.write_all_at.ensures.bytes c.write_header.ensures;
-  fits = (c.write_at.ensures.fits, c.write_all_at.ensures.fits);
-}
+pub returns-clause-bytes : goal.returns-clause-bytes
+returns-clause-bytes c =
+    request_grown c.args.bytes.now c.args.entries c.args.requests c.args.head.now c.args.containers.now _ _ _ _ _
+    (omega arith) c.entry_offset-free.ensures c.entry_bytes.ensures.bytes c.put.ensures c.write_entries.ensures.bytes c.write_header.ensures

@@ -1,0 +1,6 @@
+use Rattle.std.proofs.Common.{refl, arith}
+use Rattle.sample.proofs.Keeping.{keeps}
+use Rattle.speed.proofs.start_lines.Goals as goal
+
+pub loop-n-preserved : goal.loop-n-preserved
+loop-n-preserved g c = λ slip h. keeps c.start.ensures.does refl (omega arith) slip (c.loop-n.invariant slip h)

@@ -1,0 +1,7 @@
+use Rattle.std.proofs.Common.{ℕ}
+use Rattle.session.specs.Slips.{Spendable}
+use Rattle.session.specs.View.{view}
+use Rattle.speed.proofs.start_lines.Given as goal
+
+abbrev pub invariant-loop-n : goal.invariant-loop-n
+invariant-loop-n g l = (slip : ℕ) → Spendable (view l.fn.session.ledger) slip 140 → Spendable (view l.session.ledger) slip 140
