@@ -1,7 +1,5 @@
 -- The bounds of lines, and how they are kept.
-use Rattle.std.proofs.Common.{◌≡◌, ℕ, zero, suc, ◌+◌, ◌*◌, ◌<◌, ◌≤◌, Bool, true, false, cond, ◌&&◌, leb, List, [], ◌∷◌, ◌++◌, length, get_or, set, is_ok, Some, None, Ok, Err, Option, Result, sym, refl, ap, ◌∙◌, arith, length-append, length-set}
-use Rattle.entries.specs.declared.taker.Declined.{Declined}
-use Rattle.entries.specs.declared.taker.Declined.TheVariants.{Malformed, IntakeTooSmall}
+use Rattle.std.proofs.Common.{◌≡◌, ℕ, zero, suc, ◌+◌, ◌*◌, ◌<◌, ◌≤◌, Bool, true, false, cond, ◌&&◌, leb, List, [], ◌∷◌, ◌++◌, length, get_or, set, Some, None, Option, refl, ap, arith, length-append, length-set}
 use Rattle.session.specs.declared.state.Edit.{Edit}
 use Rattle.session.specs.declared.state.Edit.TheVariants.{Keep, Put, Add}
 use Rattle.session.specs.Fit.{StopWithin}
@@ -9,7 +7,7 @@ use Rattle.std.proofs.lemmas.Bool.{leb-true, le-leb, lt-ltb, and_parts, and_from
 use Rattle.session.specs.declared.state.Line.{Line}
 use Rattle.session.specs.Closing.{closed_lines, restarted, container, closings}
 use Rattle.entries.specs.declared.entry.Entry.{Entry}
-use Rattle.entries.specs.Requests.{container_formed, containers_formed, head_formed, well_formed, take_answer}
+use Rattle.entries.specs.Requests.{container_formed, containers_formed}
 use Rattle.session.specs.Sound.{bounded, sound_line, sound_lines, volume_of_all, Bounded}
 use Rattle.session.specs.Performing.{edited, stopped_at}
 use Rattle.session.specs.State.{no_line, stopped}
@@ -113,18 +111,6 @@ closings_formed p cause period t n (l ∷ ls) h =
 pub formed_append : (xs ys : List Entry) → containers_formed xs ≡ true → containers_formed ys ≡ true → containers_formed (xs ++ ys) ≡ true
 formed_append [] ys h k = k
 formed_append (x ∷ xs) ys h k = let a = and_parts (container_formed x) (containers_formed xs) h in and_from _ _ a.0 (formed_append xs ys a.1 k)
-
--- of a request that is well formed, only the intake decides
-pub takes_room :
-    (h : Entry) (es : List Entry) (n room : ℕ) → n ≡ length es → head_formed h n ≡ true → containers_formed es ≡ true → length es ≤ 128
-    → is_ok (take_answer h es room) ≡ leb (length es + 1) room
-takes_room h es n room e f g l =
-    let w : well_formed h es ≡ true = and_from _ _ (le-leb (length es) 128 l) (and_from _ _ (ap (head_formed h) (sym e) ∙ f) g) in
-    ap (λ (b : Bool). is_ok (cond {A = Result (Unit {0}) Declined} b (cond (leb (length es + 1) room) (Ok tt) (Err IntakeTooSmall)) (Err Malformed))) w ∙ room_decides (leb (length es + 1) room)
-  where
-    room_decides : (b : Bool) → is_ok (cond {A = Result (Unit {0}) Declined} b (Ok tt) (Err IntakeTooSmall)) ≡ b
-    room_decides true = refl
-    room_decides false = refl
 
 abbrev pub line_total : Line → ℕ
 line_total l = l.total_uplink.0 + l.total_downlink.0

@@ -1,4 +1,3 @@
-pub mod Turns
 pub mod Bounds
 pub mod Acting
 pub mod Places

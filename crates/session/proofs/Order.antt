@@ -242,10 +242,6 @@ start_closed b t None past = refl
 start_closed true t (Some j) past = refl
 start_closed false t (Some j) past = refl
 
-start_none : (t : ℕ) (key : Option LineId) (past : List (Happening LineId)) → noted_start false key t past ≡ past
-start_none t None past = refl
-start_none t (Some j) past = refl
-
 closed_noted : {K : Type 0} (es : List Entry) (past : List (Happening K)) → closed_in (noted_closings es past) ≡ closed_in past ++ es
 closed_noted [] past = sym (append-nil (closed_in past))
 closed_noted (e ∷ es) past = closed_noted es (closed_into e ∷ past) ∙ append_assoc (closed_in past) (e ∷ []) es

@@ -1,6 +1,5 @@
 -- The place of a line among the lines.
 use Rattle.std.proofs.Common.{◌≡◌, ℕ, suc, ◌+◌, ◌-◌, ◌<◌, ◌≤◌, Bool, true, false, cond, List, [], ◌∷◌, length, get_or, Some, Option, refl, ap, ◌∙◌, arith}
-use Rattle.std.specs.List.{position_from}
 use Rattle.entries.specs.declared.key.LineId.{LineId}
 use Rattle.entries.specs.Keys.{same_line}
 use Rattle.session.specs.declared.state.Line.{Line}
@@ -29,8 +28,3 @@ place_found k (l ∷ ls) n j h = go (same_line l.id k) refl h (place_found k ls 
 
 pub place_within : (k : LineId) (ls : List Line) (i : ℕ) → place_from 0 k ls ≡ Some i → i < length ls
 place_within k ls i h = let r = place_found k ls 0 i h in omega (arith, r.1)
-
--- it is the first line with the identity
-pub place_is : (k : LineId) (i : ℕ) (ls : List Line) → place_from i k ls ≡ position_from (λ l. same_line l.id k) i ls
-place_is k i [] = refl
-place_is k i (l ∷ ls) = ap (cond (same_line l.id k) (Some i)) (place_is k (i + 1) ls)

@@ -1,9 +1,6 @@
 use Rattle.std.proofs.Common.{true, false, refl, arith}
-use Rattle.session.proofs.Overrides.{seen_more, turn_some, turn_all}
+use Rattle.session.proofs.Overrides.{turn_some, turn_all}
 use Rattle.session.proofs.profile.apply.Goals as goal
-
-pub loop-o-smaller : goal.loop-o-smaller
-loop-o-smaller g c = omega (arith, seen_more (g.F.ChargingFunction.profile c.args.function.now) c.loop-o.seen c.in-Some.o c.in-Some.ensures.value)
 
 pub loop-o-preserved-then-apply_one : goal.loop-o-preserved-then-apply_one
 loop-o-preserved-then-apply_one g c =

@@ -1,21 +1,12 @@
-use Rattle.std.proofs.Common.{◌≡◌, ◌+◌, Bool, ◌++◌, vec_items, sym, ap, ◌∙◌, subst, arith}
+use Rattle.std.proofs.Common.{◌≡◌, Bool, ◌++◌, vec_items, ap, ◌∙◌, arith}
 use Rattle.entries.specs.Requests.{containers_formed}
 use Rattle.session.specs.declared.state.Line.{Line}
 use Rattle.session.specs.Closing.{closes, closing_count, closed_lines, closings}
-use Rattle.session.specs.Fit.{StopWithin}
 use Rattle.session.specs.Performing.{stopped_at, acted}
 use Rattle.session.specs.Sound.{sound_lines, volume_of_all}
 use Rattle.session.specs.View.{view}
-use Rattle.session.proofs.Acting.{acted_is, acted_sane, acted_formed, stop_within}
+use Rattle.session.proofs.Acting.{acted_sane, acted_formed}
 use Rattle.session.proofs.ledger.Ledger.perform.Goals as goal
-
-pub stop_line-requires : goal.stop_line-requires
-stop_line-requires c = record {
-  within = subst (StopWithin c.args.act.stop)
-      (sym (c.close_lines-closed.ensures.after
-      ∙ ap (closed_lines (closes c.args.act.chosen c.args.t) c.args.t) c.edit_lines.ensures.after))
-      (stop_within (view c.args.self.now) c.args.act c.args.t c.requires.fit);
-}
 
 pub invariant_of-self : goal.invariant_of-self
 invariant_of-self c =
@@ -40,18 +31,4 @@ invariant_of-self c =
       sound = ap (sound_lines c.args.t) lines ∙ sane.sound;
       formed = ap containers_formed waiting ∙ acted_formed s c.args.act c.args.t c.requires.fit c.args.self.now.formed;
       counted = omega (arith, ap volume_of_all lines, sane.counted);
-    }
-
-pub returns : goal.returns
-returns c =
-    let s = view c.args.self.now in
-    let p : Line → Bool = closes c.args.act.chosen c.args.t in
-    let e = c.edit_lines.ensures.after in
-    record {
-      after = acted_is s c.args.act c.args.t _ _ _
-          (c.close_lines-closed.ensures.count ∙ ap (λ ls. s.closed + closing_count p ls) e)
-          (c.stop_line.ensures.after ∙ ap (stopped_at c.args.act.stop) (c.close_lines-closed.ensures.after ∙ ap (closed_lines p c.args.t) e))
-          (c.close_lines-closed.ensures.appended
-          ∙ ap (λ ls. s.waiting ++ closings p c.args.act.cause s.marks.period c.args.t s.closed ls) e);
-      longer = omega (arith, c.close_lines-closed.ensures.longer, ap (closing_count p) e, c.requires.fit.count, c.args.self.now.waiting.ok.0, c.close_lines-closed.new.waiting.ok.0);
     }

@@ -1,8 +1,16 @@
-use Rattle.std.proofs.Common.{rules, ◌≡◌, sym, ◌∙◌}
+use Rattle.std.proofs.Common.{rules, ◌≡◌, ℕ, ◌+◌, Bool, true, false, cond, List, sym, refl, ◌∙◌, arith}
 use Rattle.std.specs.List.{count_by}
-use Rattle.session.specs.Closing.{closes}
-use Rattle.session.proofs.Turns.{count_is}
+use Rattle.std.proofs.lemmas.List.Recursion.{is_count_by}
+use Rattle.session.specs.declared.state.Line.{Line}
+use Rattle.session.specs.Closing.{closes, closing_count}
 use Rattle.session.proofs.state.Selection.count.Goals as goal
+
+count_is : (p : Line → Bool) (ls : List Line) → closing_count p ls ≡ count_by p ls
+count_is p ls = is_count_by (closing_count p) p refl (λ l ks. one_more (p l) (closing_count p ks)) ls
+  where
+    one_more : (b : Bool) (n : ℕ) → cond b 1 0 + n ≡ cond b (1 + n) n
+    one_more true n = refl
+    one_more false n = omega arith
 
 pub returns-clause-count : goal.returns-clause-count
 returns-clause-count c =
