@@ -1,7 +1,7 @@
 #!/bin/sh
 # Lists the places that docs/DESIGN-PASS.md counts, point by point: tools/places.sh [TREE]. Run it in any checkout of the repository.
 cd "${1:-.}" || exit 1
-rt() { find crates -name '*.rt' -path '*/src/*' | sort; }
+rt() { find crates -name '*.rt' -path '*/src/*' ! -path '*/out/*' | sort; }
 list() {
     name=$1
     shift

@@ -1,12 +1,15 @@
--- The numbers of triggers and of kinds of entries.
-use Rattle.std.specs.Prelude.{◌≡◌, ℕ, false, Result, MatchResult}
+-- The numbers of kinds of entries, of triggers, and of the parts of an override.
+use Rattle.std.specs.Prelude.{◌≡◌, ℕ, ◌<◌, false, Result, MatchResult}
 use Rattle.entries.specs.declared.entry.Kind.{Kind}
 use Rattle.entries.specs.declared.entry.Kind.TheVariants.{Initial, Update, Termination, ServiceLine, QosLine}
-use Rattle.entries.specs.declared.entry.NoKind.{NoKind}
+use Rattle.entries.specs.declared.profile.Switch.{Switch}
+use Rattle.entries.specs.declared.profile.Switch.TheVariants.{Leave, Enable, Disable}
+use Rattle.entries.specs.declared.profile.Category.{Category}
+use Rattle.entries.specs.declared.profile.Category.TheVariants.{Leave as Keep, Deferred, Immediate}
+use Rattle.entries.specs.declared.refusal.UnknownNumber.{UnknownNumber}
 use Rattle.entries.specs.declared.trigger.Trigger.{Trigger}
 use Rattle.entries.specs.declared.trigger.Trigger.TheVariants.{Qos, GfbrStatus, UserLocation, ServingNode, PresenceArea, PsDataOff, TariffTime, TimeZone, Plmn, RatType, SessionAmbr}
 use Rattle.entries.specs.declared.trigger.Trigger.TheVariants.{SessionTime, SessionVolume, ConditionChanges, LineTime, LineVolume, LineEnd, Intervention, SessionEnd, Abort}
-use Rattle.entries.specs.declared.trigger.NoTrigger.{NoTrigger}
 use Rattle.entries.specs.Entries.{initial, update, termination, service_line, qos_line}
 use Rattle.entries.specs.Triggers.{qos, gfbr_status, user_location, serving_node, presence_area, ps_data_off, tariff_time, time_zone, plmn, rat_type, session_ambr, session_time_limit, session_volume_limit, condition_changes}
 use Rattle.entries.specs.Triggers.{line_time_limit, line_volume_limit, line_end, intervention, session_end, abort, between}
@@ -19,7 +22,7 @@ kind_number ServiceLine = service_line
 kind_number QosLine = qos_line
 
 -- the kind of that number, or that no kind has it
-abbrev pub IsKindOf : ℕ → Result Kind NoKind → Type 0
+abbrev pub IsKindOf : ℕ → Result Kind UnknownNumber → Type 0
 IsKindOf n r = MatchResult r (λ k. kind_number k ≡ n) (λ e. between initial qos_line n ≡ false)
 
 abbrev pub trigger_number : Trigger → ℕ
@@ -45,5 +48,22 @@ trigger_number SessionEnd = session_end
 trigger_number Abort = abort
 
 -- the trigger of that number, or that no trigger has it
-abbrev pub IsTriggerOf : ℕ → Result Trigger NoTrigger → Type 0
+abbrev pub IsTriggerOf : ℕ → Result Trigger UnknownNumber → Type 0
 IsTriggerOf n r = MatchResult r (λ t. trigger_number t ≡ n) (λ e. between qos abort n ≡ false)
+
+abbrev pub switch_number : Switch → ℕ
+switch_number Leave = 0
+switch_number Enable = 1
+switch_number Disable = 2
+
+abbrev pub category_number : Category → ℕ
+category_number Keep = 0
+category_number Deferred = 1
+category_number Immediate = 2
+
+-- the part of an override of that number, or that none has it
+abbrev pub IsSwitchOf : ℕ → Result Switch UnknownNumber → Type 0
+IsSwitchOf n r = MatchResult r (λ s. switch_number s ≡ n) (λ e. 2 < n)
+
+abbrev pub IsCategoryOf : ℕ → Result Category UnknownNumber → Type 0
+IsCategoryOf n r = MatchResult r (λ c. category_number c ≡ n) (λ e. 2 < n)

@@ -1,6 +1,5 @@
 // A book: a charging function that writes requests into a lent table of entries.
 ghost use Rattle.std.specs.Prelude.{◌≡◌, ◌+◌, ◌≤◌, ◌∷◌, length};
-ghost use Rattle.entries.specs.Books.{entries_of, places_left, overrides_of, Grown, BookMade};
 ghost use Rattle.entries.specs.Written.{written};
 
 use crate::entry::*;
@@ -16,6 +15,7 @@ pub struct Book<'a> {
     table: &'a mut [Entry],
     used: usize,
     profile: Profile<'a>,
+    ghost within: { used ≤ length table.now },
 }
 
 // Writes a head and its containers from a place on.
@@ -28,6 +28,8 @@ fn write_request(table: &mut [Entry], at: usize, head: &Entry, containers: &[Ent
 }
 
 impl<'a> Book<'a> {
+    ghost use Rattle.entries.specs.Books.{entries_of, BookMade};
+
     // An empty book over a lent table of up to 4,096 entries, with a profile of up to 32 overrides. The making writes
     // nothing.
     pub fn new(
@@ -50,12 +52,13 @@ impl<'a> Book<'a> {
     pub fn entries(&self) -> &[Entry]
         ensures { result.now ≡ entries_of self.now }
     {
-        let used = self.used.min(self.table.len());
-        &self.table[0..used]
+        &self.table[..self.used]
     }
 }
 
-impl<'a> Taker for Book<'a> {
+impl Taker for Book<'_> {
+    ghost use Rattle.entries.specs.Books.{entries_of, places_left, Grown};
+
     ghost book = { entries_of };
 
     ghost room = { places_left };
@@ -63,19 +66,20 @@ impl<'a> Taker for Book<'a> {
     ghost took = { Grown };
 
     fn intake(&self) -> usize {
-        self.table.len().saturating_sub(self.used)
+        self.table.len() - self.used
     }
 
     fn take(&mut self, head: &Entry, containers: &[Entry]) -> Result<(), Declined> {
         admit(head, containers, self.intake())?;
-        let used = self.used;
-        write_request(self.table, used, head, containers);
-        self.used = used + (containers.len() + 1);
+        write_request(self.table, self.used, head, containers);
+        self.used += containers.len() + 1;
         Ok(())
     }
 }
 
-impl<'a> ChargingFunction for Book<'a> {
+impl ChargingFunction for Book<'_> {
+    ghost use Rattle.entries.specs.Books.{overrides_of};
+
     ghost profile = { overrides_of };
 
     fn override_at(&self, i: usize) -> Option<Override> {

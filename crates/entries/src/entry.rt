@@ -3,6 +3,7 @@
 ghost use Rattle.std.specs.Prelude.{◌≡◌};
 ghost use Rattle.entries.specs.Numbers.{kind_number, IsKindOf};
 
+use crate::refusal::UnknownNumber;
 use std::fmt;
 
 // The kinds of entries: the first three are heads, the others containers.
@@ -15,10 +16,6 @@ pub enum Kind {
     QosLine,
 }
 
-// A number that no kind of entries has.
-#[derive(Clone, Copy, PartialEq, Eq, Debug)]
-pub struct NoKind;
-
 impl Kind {
     pub fn number(self) -> u8
         ensures { result ≡ kind_number self }
@@ -28,18 +25,18 @@ impl Kind {
 }
 
 impl TryFrom<u8> for Kind {
-    type Error = NoKind;
+    type Error = UnknownNumber;
 
     ghost try_from_gives = { IsKindOf };
 
-    fn try_from(number: u8) -> Result<Kind, NoKind> {
+    fn try_from(number: u8) -> Result<Kind, UnknownNumber> {
         Ok(match number {
             1 => Kind::Initial,
             2 => Kind::Update,
             3 => Kind::Termination,
             4 => Kind::ServiceLine,
             5 => Kind::QosLine,
-            _ => return Err(NoKind),
+            _ => return Err(UnknownNumber),
         })
     }
 }

@@ -1,9 +1,73 @@
 // Profiles of charging functions.
 ghost use Rattle.std.specs.Prelude.{◌≡◌, ◌≤◌, length};
 ghost use Rattle.std.specs.List.{slice_get};
+ghost use Rattle.entries.specs.Numbers.{switch_number, category_number, IsSwitchOf, IsCategoryOf};
 
+use crate::refusal::UnknownNumber;
 use crate::taker::*;
 use std::marker::Model;
+
+// What an override makes of a trigger that is enabled or not.
+#[derive(Clone, Copy, PartialEq, Eq, Debug)]
+pub enum Switch {
+    Leave,
+    Enable,
+    Disable,
+}
+
+// What an override makes of a trigger's category.
+#[derive(Clone, Copy, PartialEq, Eq, Debug)]
+pub enum Category {
+    Leave,
+    Deferred,
+    Immediate,
+}
+
+impl Switch {
+    pub fn number(self) -> u8
+        ensures { result ≡ switch_number self }
+    {
+        self as u8
+    }
+}
+
+impl Category {
+    pub fn number(self) -> u8
+        ensures { result ≡ category_number self }
+    {
+        self as u8
+    }
+}
+
+impl TryFrom<u8> for Switch {
+    type Error = UnknownNumber;
+
+    ghost try_from_gives = { IsSwitchOf };
+
+    fn try_from(number: u8) -> Result<Switch, UnknownNumber> {
+        match number {
+            0 => Ok(Switch::Leave),
+            1 => Ok(Switch::Enable),
+            2 => Ok(Switch::Disable),
+            _ => Err(UnknownNumber),
+        }
+    }
+}
+
+impl TryFrom<u8> for Category {
+    type Error = UnknownNumber;
+
+    ghost try_from_gives = { IsCategoryOf };
+
+    fn try_from(number: u8) -> Result<Category, UnknownNumber> {
+        match number {
+            0 => Ok(Category::Leave),
+            1 => Ok(Category::Deferred),
+            2 => Ok(Category::Immediate),
+            _ => Err(UnknownNumber),
+        }
+    }
+}
 
 // Up to 32 lent overrides.
 #[derive(Drop)]

@@ -65,9 +65,9 @@ pub trait Taker {
 // The most overrides of a profile.
 pub const MOST_OVERRIDES: usize = 32;
 
-// What a charging function wants of a trigger; 0 leaves a part as it is. The switch is 1 to enable and 2 to disable, the
-// category 1 for deferred and 2 for immediate.
-#[derive(Clone, Copy)]
+// What a charging function wants of a trigger, in the numbers in which it comes: a trigger, a switch, a category, and a
+// threshold, of which 0 leaves what was. A number that is none of these may stand there; it is passed over.
+#[derive(Clone, Copy, PartialEq, Eq, Debug)]
 pub struct Override {
     pub trigger: u8,
     pub switch: u8,

@@ -3,6 +3,8 @@ ghost use Rattle.std.specs.Prelude.{◌≡◌, ◌≤◌};
 ghost use Rattle.entries.specs.Triggers.{is_condition, is_limit};
 ghost use Rattle.entries.specs.Numbers.{trigger_number, IsTriggerOf};
 
+use crate::refusal::UnknownNumber;
+
 // One more than the last number: a table by trigger number has so many places, and uses all but the first.
 pub const TRIGGERS: usize = 21;
 
@@ -29,10 +31,6 @@ pub enum Trigger {
     SessionEnd,
     Abort,
 }
-
-// A number that no trigger has.
-#[derive(Clone, Copy, PartialEq, Eq, Debug)]
-pub struct NoTrigger;
 
 impl Trigger {
     pub fn number(self) -> u8
@@ -65,11 +63,11 @@ impl Trigger {
 }
 
 impl TryFrom<u8> for Trigger {
-    type Error = NoTrigger;
+    type Error = UnknownNumber;
 
     ghost try_from_gives = { IsTriggerOf };
 
-    fn try_from(number: u8) -> Result<Trigger, NoTrigger> {
+    fn try_from(number: u8) -> Result<Trigger, UnknownNumber> {
         Ok(match number {
             1 => Trigger::Qos,
             2 => Trigger::GfbrStatus,
@@ -91,7 +89,7 @@ impl TryFrom<u8> for Trigger {
             18 => Trigger::Intervention,
             19 => Trigger::SessionEnd,
             20 => Trigger::Abort,
-            _ => return Err(NoTrigger),
+            _ => return Err(UnknownNumber),
         })
     }
 }

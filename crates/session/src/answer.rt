@@ -4,8 +4,7 @@ ghost use Rattle.session.specs.declared.answer.NotMade.TheVariants.{NoMemory};
 ghost use Rattle.session.specs.declared.answer.Refusal.TheVariants.{OutOfRange};
 ghost use Rattle.session.specs.Answers.{number, not_made_number};
 
-use entries::refusal::Numbered;
-use entries::trigger::NoTrigger;
+use entries::refusal::*;
 use std::alloc::AllocError;
 use thiserror::Error;
 
@@ -44,10 +43,10 @@ impl Numbered for Refusal {
 }
 
 // A number that no trigger has is out of range.
-impl From<NoTrigger> for Refusal {
+impl From<UnknownNumber> for Refusal {
     ghost from_gives = { λ _ r. r ≡ OutOfRange };
 
-    fn from(_: NoTrigger) -> Refusal {
+    fn from(_: UnknownNumber) -> Refusal {
         Refusal::OutOfRange
     }
 }

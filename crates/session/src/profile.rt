@@ -6,15 +6,9 @@ use crate::answer::Opened;
 use crate::state::*;
 use entries::entry::MOST_OCTETS;
 use entries::method::*;
+use entries::profile::*;
 use entries::taker::*;
 use entries::trigger::*;
-
-// The switch and the category of an override: 0 leaves what it was, these turn it on, and the other value turns it off.
-const ENABLE: u8 = 1;
-
-const IMMEDIATE: u8 = 2;
-
-const LARGEST_PART: u8 = 2;
 
 // Whether the trigger table permits each part of an override, and its values are in range.
 fn is_permitted(rule: Option<Rule>, o: Override) -> bool
@@ -23,13 +17,15 @@ fn is_permitted(rule: Option<Rule>, o: Override) -> bool
     let Some(rule) = rule else {
         return false;
     };
+    let (Ok(switch), Ok(category)) = (Switch::try_from(o.switch), Category::try_from(o.category))
+    else {
+        return false;
+    };
     let is_limit = Trigger::try_from(o.trigger).is_ok_and(|trigger| trigger.is_limit());
     o.trigger <= Trigger::Abort.number()
-        && o.switch <= LARGEST_PART
-        && o.category <= LARGEST_PART
         && o.threshold <= MOST_OCTETS
-        && (o.switch == 0 || rule.switched)
-        && (o.category == 0 || rule.recategorised)
+        && (switch == Switch::Leave || rule.switched)
+        && (category == Category::Leave || rule.recategorised)
         && (o.threshold == 0 || is_limit)
 }
 
@@ -46,8 +42,16 @@ impl From<Override> for Change {
 
     fn from(o: Override) -> Change {
         Change {
-            enabled: (o.switch > 0).then_some(o.switch == ENABLE),
-            immediate: (o.category > 0).then_some(o.category == IMMEDIATE),
+            enabled: match Switch::try_from(o.switch) {
+                Ok(Switch::Leave) => None,
+                Ok(Switch::Enable) => Some(true),
+                _ => Some(false),
+            },
+            immediate: match Category::try_from(o.category) {
+                Ok(Category::Leave) => None,
+                Ok(Category::Immediate) => Some(true),
+                _ => Some(false),
+            },
             threshold: (o.threshold > 0).then_some(o.threshold),
         }
     }
