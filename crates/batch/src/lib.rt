@@ -19,7 +19,7 @@ use std::alloc::Global;
 
 const CHARGING_ID: u32 = 7;
 
-// A usage report on the line of a rating group, or a start of that line, as another language passes it.
+// A usage report on the line of a rating group, or a start of that line; flat, as another language passes it.
 #[repr(C)]
 #[derive(Clone, Copy)]
 pub struct Call {

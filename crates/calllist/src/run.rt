@@ -10,14 +10,6 @@ use entries::link::*;
 use entries::making::Unmade;
 use entries::taker::*;
 
-// An entry a line, its fields in the order of the layout.
-fn show(rt: &impl Print, entries: &[Entry]) -> Result<(), Stop> {
-    for e in entries {
-        println!(rt; "{e}")?;
-    }
-    Ok(())
-}
-
 // Why a book of so many places is not made: one place too many is enough for the making to say so, with the places asked for.
 fn places_refused(why: Unmade, places: u32) -> Rejection {
     Rejection::Book(match why {
@@ -26,7 +18,7 @@ fn places_refused(why: Unmade, places: u32) -> Rejection {
     })
 }
 
-// Plays the calls on a session of its method.
+// Plays the calls on a session of its method. Sessions of other keys are other types, so each method has its arm.
 fn play_any<F: ChargingFunction>(
     rt: &HostRuntime,
     input: &mut Input,
@@ -74,7 +66,10 @@ fn run(rt: &HostRuntime, input: &mut Input) -> Result<(), Stop> {
             say(rt, "book", Answer::of_making(None))?;
             let mut link = Link::new(book);
             play_on(rt, input, session, &mut link)?;
-            show(rt, link.below().entries())
+            for e in link.below().entries() {
+                println!(rt; "{e}")?;
+            }
+            Ok(())
         }
         Err(refused) => {
             let why = places_refused(refused.why, places);

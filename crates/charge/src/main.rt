@@ -15,7 +15,10 @@ fn run(rt: &HostRuntime) -> Result<()> {
     let mut table = [BLANK_ENTRY; PLACES];
     let mut book = Book::new(&mut table, &[])?;
     charge(&mut session, &mut book)?;
-    show(rt, book.entries())
+    for e in book.entries() {
+        println!(rt; "{e}")?;
+    }
+    Ok(())
 }
 
 fn main(rt: HostRuntime) -> ExitCode {

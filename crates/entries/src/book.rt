@@ -12,6 +12,7 @@ pub const MOST_ENTRIES: usize = 4096;
 
 #[derive(Drop)]
 pub struct Book<'a> {
+    // lent, so that a charging function needs no heap; the entries taken are its first
     table: &'a mut [Entry],
     used: usize,
     profile: Profile<'a>,
@@ -38,6 +39,7 @@ impl<'a> Book<'a> {
     ) -> Result<Book<'a>, Refused<Unmade, &'a mut [Entry]>>
         ensures { BookMade table.old overrides.now result }
     {
+        // a closure for `map_err` would hold the lent table
         match lend(overrides, table.len(), 0, MOST_ENTRIES) {
             Ok(profile) => Ok(Book {
                 table,

@@ -44,7 +44,7 @@ impl TryFrom<u8> for Kind {
 // The most octets that a container, a total or a threshold may have.
 pub const MOST_OCTETS: u64 = 999_999_999_999;
 
-// Octets from the user to the network.
+// Octets from the user to the network. The other direction is a type of its own, so that no code takes one for the other.
 #[derive(Clone, Copy, PartialEq, Eq, Debug)]
 pub struct Uplink(pub u64);
 

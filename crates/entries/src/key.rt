@@ -5,7 +5,7 @@ ghost use Rattle.std.proofs.Common.{rules};
 
 use crate::entry::*;
 
-// The identity of a line in containers: its entry kind and its code.
+// The identity of a line in containers: its entry kind and its code, numbers as an entry holds them, so that the two compare.
 #[derive(Clone, Copy, PartialEq, Eq, Debug)]
 pub struct LineId {
     pub kind: u8,

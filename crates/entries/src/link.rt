@@ -6,6 +6,7 @@ use crate::taker::*;
 
 #[derive(Drop)]
 pub struct Link<F> {
+    // there whether the link is up or not
     below: F,
     up: bool,
 }

@@ -7,7 +7,7 @@ use crate::key::*;
 use crate::trigger::*;
 
 // What the trigger table says of a trigger: whether it begins as immediate, else deferred, and whether the charging
-// function may recategorise it, and switch it.
+// function may recategorise it, and switch it. A column each, and any combination is a rule.
 #[derive(Clone, Copy, PartialEq, Eq, Debug)]
 pub struct Rule {
     pub immediate: bool,
@@ -20,7 +20,7 @@ pub trait Method: Copy {
 
     ghost column: { Column };
 
-    // The rule of a trigger; none where the method lacks it.
+    // The rule of a trigger; none where the method lacks it. Any number may be asked for.
     fn rule(&self, trigger: u8) -> Option<Rule>
         ensures { result ≡ column trigger };
 

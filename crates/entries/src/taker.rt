@@ -54,7 +54,7 @@ pub trait Taker {
     fn intake(&self) -> usize
         ensures { result ≡ room self.now };
 
-    // Takes a request, or declines it and stays as it is.
+    // Takes a request, or declines it and stays as it is. Head and containers stay apart, as every promise names them apart.
     fn take(&mut self, head: &Entry, containers: &[Entry]) -> Result<(), Declined>
         ensures answer { result ≡ take_answer head.now containers.now (room self.old) }
         ensures after { book self.new ≡ (if is_ok result then book self.old ++ (head.now ∷ containers.now) else book self.old) }

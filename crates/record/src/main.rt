@@ -25,7 +25,9 @@ fn show_octets(rt: &impl Print, entries: &[Entry], period: u16) -> Result<()> {
 // Reads a journal back, and prints what it has.
 fn read_back(rt: &impl Print, heap: Global, reader: &Reader) -> Result<()> {
     let entries: Vec<Entry> = reader.entries().collect(heap)?;
-    show(rt, &entries)?;
+    for e in &entries {
+        println!(rt; "{e}")?;
+    }
     show_octets(rt, &entries, 0)?;
     show_octets(rt, &entries, 1)
 }

@@ -5,8 +5,5 @@ use calllist::run::replay;
 use std::process::ExitCode;
 
 fn main(rt: HostRuntime) -> ExitCode {
-    match replay(&rt) {
-        Ok(()) => ExitCode::SUCCESS,
-        Err(_) => ExitCode::FAILURE,
-    }
+    replay(&rt).map_or(ExitCode::FAILURE, |()| ExitCode::SUCCESS)
 }

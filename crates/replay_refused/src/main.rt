@@ -1,12 +1,9 @@
-// The program replay once more, for its stored run of makings that are refused.
+// The program replay once more, for its stored run of makings that are refused: a program has one stored run.
 #![tactic(auto)]
 
 use calllist::run::replay;
 use std::process::ExitCode;
 
 fn main(rt: HostRuntime) -> ExitCode {
-    match replay(&rt) {
-        Ok(()) => ExitCode::SUCCESS,
-        Err(_) => ExitCode::FAILURE,
-    }
+    replay(&rt).map_or(ExitCode::FAILURE, |()| ExitCode::SUCCESS)
 }

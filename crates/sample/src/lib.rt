@@ -7,7 +7,6 @@ ghost use Rattle.session.specs.Slips.{Spendable};
 ghost use Rattle.session.specs.View.{view};
 
 use anyhow::{Result, bail, ensure};
-use entries::entry::*;
 use entries::key::*;
 use entries::method::*;
 use entries::taker::*;
@@ -94,12 +93,4 @@ pub fn charge<F: ChargingFunction>(
 
 pub fn make_session(heap: Global) -> Result<Session<Converged>> {
     Ok(Session::new(heap, Converged, CHARGING_ID, NO_LIMITS)?)
-}
-
-// An entry a line, its fields in the order of the layout.
-pub fn show(rt: &impl Print, entries: &[Entry]) -> Result<()> {
-    for e in entries {
-        println!(rt; "{e}")?;
-    }
-    Ok(())
 }
