@@ -9,7 +9,7 @@ ghost use Rattle.session.specs.State.{setting, can_fire, limit_met, is_urgent, v
 ghost use Rattle.session.specs.View.{view};
 
 use crate::answer::Refusal;
-use crate::event::Event;
+use crate::event::*;
 use crate::ledger::*;
 use crate::state::*;
 use entries::entry::*;
@@ -160,20 +160,20 @@ impl Ledger {
     }
 
     // The volume sum with a report in it, both directions added, for the limit of the session's volume.
-    pub(crate) fn volume_sum(&self, up: u32, down: u32) -> u64
-        ensures { result ≡ volume_sum self.now.marks.volume up down }
+    pub(crate) fn volume_sum(&self, volume: Volume) -> u64
+        ensures { result ≡ volume_sum self.now.marks.volume volume.up volume.down }
     {
-        self.marks.volume + (up as u64 + down as u64)
+        self.marks.volume + (volume.up as u64 + volume.down as u64)
     }
 
     // What the limits make of a report that is counted on a line.
-    fn count_act(&self, id: LineId, i: usize, up: u32, down: u32, line: Line) -> Act
+    fn count_act(&self, id: LineId, i: usize, volume: Volume, line: Line) -> Act
         requires { Bounded line }
-        ensures { result ≡ count_act (view self.now) id i up down line }
+        ensures { result ≡ count_act (view self.now) id i volume.up volume.down line }
     {
         let edit = Edit::Put(i, line);
-        let volume = self.volume_sum(up, down);
-        if self.is_met(Trigger::SessionVolume, volume) {
+        let sum = self.volume_sum(volume);
+        if self.is_met(Trigger::SessionVolume, sum) {
             let marks = Marks {
                 volume: 0,
                 ..self.marks
@@ -181,7 +181,7 @@ impl Ledger {
             return self.fired(Trigger::SessionVolume, Selection::Active, edit, marks);
         }
         let marks = Marks {
-            volume,
+            volume: sum,
             ..self.marks
         };
         if self.is_met(Trigger::LineVolume, line.open_octets()) {
@@ -203,15 +203,15 @@ impl Ledger {
         Ok((id, i))
     }
 
-    fn usage_act(&self, key: Option<LineId>, up: u32, down: u32) -> Result<Act, Refusal>
-        ensures { result ≡ usage_act (view self.now) key up down }
+    fn usage_act(&self, key: Option<LineId>, volume: Volume) -> Result<Act, Refusal>
+        ensures { result ≡ usage_act (view self.now) key volume.up volume.down }
     {
         let (id, i) = self.active_place(key)?;
-        let line = self.line(i).count(up, down);
+        let line = self.line(i).count(volume);
         if line.is_over_total() {
             return Err(Refusal::TooLarge);
         }
-        Ok(self.count_act(id, i, up, down, line))
+        Ok(self.count_act(id, i, volume, line))
     }
 
     fn ending(&self, id: LineId, i: usize) -> Act
@@ -393,7 +393,7 @@ impl Ledger {
             (Phase::Fresh, Event::Open) | (Phase::Open, _) if t < self.last => Err(Refusal::Early),
             (Phase::Fresh, Event::Open) => Ok(self.open_act(t)),
             (Phase::Open, Event::Start(key)) => self.start_act(key, t),
-            (Phase::Open, Event::Usage(key, up, down)) => self.usage_act(key, up, down),
+            (Phase::Open, Event::Usage(key, up, down)) => self.usage_act(key, Volume { up, down }),
             (Phase::Open, Event::End(key)) => self.end_act(key),
             (Phase::Open, Event::Change(n)) => self.change_act(n),
             (Phase::Open, Event::Tick) => Ok(self.tick_act(t)),

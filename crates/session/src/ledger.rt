@@ -21,7 +21,7 @@ pub(crate) struct Ledger {
     pub(crate) last: u32,
     // how many containers were closed
     pub(crate) closed: u32,
-    // whether a declined report is to be offered again
+    // whether a declined report is to be offered again, made anew of what waits then
     pub(crate) owed: bool,
     pub(crate) lines: Vec<Line>,
     pub(crate) waiting: Vec<Entry>,

@@ -4,21 +4,22 @@ ghost use Rattle.session.specs.Closing.{closes, closes_by, container, restarted,
 ghost use Rattle.session.specs.Sound.{Bounded};
 ghost use Rattle.session.specs.State.{counted, over_total, open_octets};
 
+use crate::event::Volume;
 use crate::state::*;
 use entries::entry::*;
 
 impl Line {
     // The line with a report counted.
-    pub(crate) fn count(self, up: u32, down: u32) -> Line
+    pub(crate) fn count(self, volume: Volume) -> Line
         requires { Bounded self }
-        ensures value { result ≡ counted up down self }
+        ensures value { result ≡ counted volume.up volume.down self }
         ensures bounded { over_total result ≡ false → Bounded result }
     {
         Line {
-            uplink: Uplink(self.uplink.0 + up as u64),
-            downlink: Downlink(self.downlink.0 + down as u64),
-            total_uplink: Uplink(self.total_uplink.0 + up as u64),
-            total_downlink: Downlink(self.total_downlink.0 + down as u64),
+            uplink: Uplink(self.uplink.0 + volume.up as u64),
+            downlink: Downlink(self.downlink.0 + volume.down as u64),
+            total_uplink: Uplink(self.total_uplink.0 + volume.up as u64),
+            total_downlink: Downlink(self.total_downlink.0 + volume.down as u64),
             ..self
         }
     }

@@ -92,6 +92,7 @@ pub(crate) fn apply<M: Method, F: ChargingFunction>(
     ensures passed { result.passed ≡ length (F.ChargingFunction.profile function.now) - applied_count M.Method.column (F.ChargingFunction.profile function.now) }
 {
     let mut applied: usize = 0;
+    // how many there are is part of the answer, and the function is asked by index
     let mut seen: usize = 0;
     while let Some(o) = function.override_at(seen) {
         seen += 1;

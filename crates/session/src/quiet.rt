@@ -8,7 +8,7 @@ ghost use Rattle.session.specs.Performing.{reporting};
 ghost use Rattle.session.specs.Quiet.{Quiet, quietly};
 ghost use Rattle.session.specs.View.{view};
 
-use crate::event::Event;
+use crate::event::*;
 use crate::ledger::*;
 use crate::state::*;
 use entries::key::LineId;
@@ -16,8 +16,8 @@ use entries::trigger::*;
 
 impl Ledger {
     // The place of the line that a report is counted on, if it is quiet.
-    fn quiet_place(&self, id: LineId, up: u32, down: u32, t: u32) -> Option<usize>
-        ensures quiet { IfSome result (λ i. Quiet (view self.now) id up down t i) }
+    fn quiet_place(&self, id: LineId, volume: Volume, t: u32) -> Option<usize>
+        ensures quiet { IfSome result (λ i. Quiet (view self.now) id volume.up volume.down t i) }
         ensures inside { IfSome result (λ i. i < vec_len self.now.lines) }
     {
         if t < self.last || self.report_waits() {
@@ -28,9 +28,9 @@ impl Ledger {
         if !line.active {
             return None;
         }
-        let line = line.count(up, down);
+        let line = line.count(volume);
         if line.is_over_total()
-            || self.is_met(Trigger::SessionVolume, self.volume_sum(up, down))
+            || self.is_met(Trigger::SessionVolume, self.volume_sum(volume))
             || self.is_met(Trigger::LineVolume, line.open_octets())
         {
             return None;
@@ -39,18 +39,18 @@ impl Ledger {
     }
 
     // Counts a report on an open session if it is quiet.
-    fn count_quiet(&mut self, id: LineId, up: u32, down: u32, t: u32) -> bool
+    fn count_quiet(&mut self, id: LineId, volume: Volume, t: u32) -> bool
         requires { self.old.marks.phase ≡ OpenPhase }
-        ensures done { result ≡ true → ((intake : ℕ) → reporting (view self.old) t intake (decide (view self.old) (Reporting (Some id) up down) 0 t) ≡ quietly (view self.new)) }
+        ensures done { result ≡ true → ((intake : ℕ) → reporting (view self.old) t intake (decide (view self.old) (Reporting (Some id) volume.up volume.down) 0 t) ≡ quietly (view self.new)) }
         ensures left { result ≡ false → self.new ≡ self.old }
     {
-        let Some(i) = self.quiet_place(id, up, down, t) else {
+        let Some(i) = self.quiet_place(id, volume, t) else {
             return false;
         };
-        let line = self.line(i).count(up, down);
-        let volume = self.volume_sum(up, down);
+        let line = self.line(i).count(volume);
+        let sum = self.volume_sum(volume);
         self.lines[i] = line;
-        self.marks.volume = volume;
+        self.marks.volume = sum;
         self.last = t;
         true
     }
@@ -61,7 +61,11 @@ impl Ledger {
         ensures left { result ≡ false → self.new ≡ self.old }
     {
         match (self.marks.phase, event) {
-            (Phase::Open, Event::Usage(Some(id), up, down)) => self.count_quiet(id, up, down, t),
+            (Phase::Open, Event::Usage(Some(id), up, down)) => self.count_quiet(
+                id,
+                Volume { up, down },
+                t,
+            ),
             _ => false,
         }
     }

@@ -10,7 +10,8 @@ pub enum Phase {
     Shelved,
 }
 
-// A line: the count that is open since a time, and the totals.
+// A line: the count that is open since a time, and the totals. An inactive line has an open count of 0, so that sums over
+// lines need no case.
 #[derive(Clone, Copy)]
 pub struct Line {
     pub id: LineId,
@@ -22,7 +23,8 @@ pub struct Line {
     pub total_downlink: Downlink,
 }
 
-// A trigger as set: whether the method has it, whether it is enabled, its category and its threshold.
+// A trigger as set: whether the method has it, whether it is enabled, its category and its threshold. A trigger that the
+// method lacks is off, so that only a change of conditions asks whether it is known.
 #[derive(Clone, Copy)]
 pub struct Setting {
     pub known: bool,
@@ -60,7 +62,8 @@ pub enum Selection {
     OpenFor(u64),
 }
 
-// A closing of lines into containers: which lines, with which cause, in which tariff period, and when.
+// A closing of lines into containers: which lines, with which cause, in which tariff period, and when. Causes are numbers
+// here and in an act, as a container and a head hold them, 0 for none.
 #[derive(Clone, Copy)]
 pub struct Closing {
     pub chosen: Selection,

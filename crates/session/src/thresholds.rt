@@ -10,7 +10,7 @@ use entries::method::*;
 use entries::trigger::*;
 use std::array;
 
-// The thresholds of the limits; 0 is no limit.
+// The thresholds of the limits; 0 is no limit, as in an override and in a call list.
 #[derive(Clone, Copy, PartialEq, Eq, Debug)]
 pub struct Thresholds {
     // seconds
