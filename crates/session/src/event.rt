@@ -1,7 +1,7 @@
 // The calls on a session.
 
 // The octets of a usage report.
-#[derive(Clone, Copy, PartialEq, Eq, Debug)]
+#[derive(Clone, Copy)]
 pub struct Volume {
     pub up: u32,
     pub down: u32,

@@ -69,8 +69,9 @@ impl<M: Method> Session<M> {
     }
 }
 
-// The ten calls, by names of their own, as an integrator reads them. Each promises that its answer, the session and what its taker gains are those of its step; and that, whatever
-// making and calls the session comes from, the laws hold of them with this call behind them.
+// The ten calls, by names of their own, as an integrator reads them. Each promises that its answer, the session and what its
+// taker gains are those of its step; and that, whatever making and calls the session comes from, the laws hold of them with
+// this call behind them.
 impl<M: Method> Session<M> {
     // Opens the session: applies the profile, hands over an Initial, and hands out the slip.
     pub fn open<F: ChargingFunction>(
