@@ -4,7 +4,6 @@ ghost use Rattle.calllist.specs.Shown.{making_answer};
 
 use crate::stop::Stop;
 use entries::making::Unmade;
-use entries::refusal::Numbered;
 use session::answer::*;
 use std::fmt;
 

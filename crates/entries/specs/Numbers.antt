@@ -6,7 +6,7 @@ use Rattle.entries.specs.declared.profile.Switch.{Switch}
 use Rattle.entries.specs.declared.profile.Switch.TheVariants.{Leave, Enable, Disable}
 use Rattle.entries.specs.declared.profile.Category.{Category}
 use Rattle.entries.specs.declared.profile.Category.TheVariants.{Leave as Keep, Deferred, Immediate}
-use Rattle.entries.specs.declared.refusal.UnknownNumber.{UnknownNumber}
+use Rattle.entries.specs.declared.number.UnknownNumber.{UnknownNumber}
 use Rattle.entries.specs.declared.trigger.Trigger.{Trigger}
 use Rattle.entries.specs.declared.trigger.Trigger.TheVariants.{Qos, GfbrStatus, UserLocation, ServingNode, PresenceArea, PsDataOff, TariffTime, TimeZone, Plmn, RatType, SessionAmbr}
 use Rattle.entries.specs.declared.trigger.Trigger.TheVariants.{SessionTime, SessionVolume, ConditionChanges, LineTime, LineVolume, LineEnd, Intervention, SessionEnd, Abort}

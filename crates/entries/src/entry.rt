@@ -3,7 +3,7 @@
 ghost use Rattle.std.specs.Prelude.{◌≡◌};
 ghost use Rattle.entries.specs.Numbers.{kind_number, IsKindOf};
 
-use crate::refusal::UnknownNumber;
+use crate::number::UnknownNumber;
 use std::fmt;
 
 // The kinds of entries: the first three are heads, the others containers.

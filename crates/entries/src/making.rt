@@ -4,7 +4,6 @@ ghost use Rattle.entries.specs.Makings.{unmade_number, unmade_place, Lent};
 
 use crate::entry::*;
 use crate::profile::*;
-use crate::refusal::Numbered;
 use crate::taker::*;
 use std::error::Error;
 use std::fmt;
@@ -19,18 +18,17 @@ pub enum Unmade {
     WrongLength(usize),
 }
 
-impl Numbered for Unmade {
-    ghost meant = { unmade_number };
-
-    fn number(self) -> u8 {
+impl Unmade {
+    // The number that a caller meets: 4 or 11.
+    pub fn number(self) -> u8
+        ensures { result ≡ unmade_number self }
+    {
         match self {
             Unmade::TooManyOverrides => 4,
             Unmade::WrongLength(_) => 11,
         }
     }
-}
 
-impl Unmade {
     // The place of number 11: the length of the lent memory.
     pub fn place(self) -> Option<usize>
         ensures { result ≡ unmade_place self }

@@ -3,7 +3,7 @@ ghost use Rattle.std.specs.Prelude.{◌≡◌, ◌≤◌, length};
 ghost use Rattle.std.specs.List.{slice_get};
 ghost use Rattle.entries.specs.Numbers.{switch_number, category_number, IsSwitchOf, IsCategoryOf};
 
-use crate::refusal::UnknownNumber;
+use crate::number::UnknownNumber;
 use crate::taker::*;
 use std::marker::Model;
 

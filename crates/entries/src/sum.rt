@@ -6,7 +6,6 @@ ghost use Rattle.entries.specs.Sums.{most_summed, line_octets, unsummed_number, 
 
 use crate::entry::*;
 use crate::key::*;
-use crate::refusal::Numbered;
 use crate::sequence::*;
 use thiserror::Error;
 
@@ -31,10 +30,11 @@ pub enum Unsummed {
     NotRequests,
 }
 
-impl Numbered for Unsummed {
-    ghost meant = { unsummed_number };
-
-    fn number(self) -> u8 {
+impl Unsummed {
+    // The number that a caller meets: 4.
+    pub fn number(self) -> u8
+        ensures { result ≡ unsummed_number self }
+    {
         match self {
             Unsummed::TooManyEntries | Unsummed::KeyOutOfRange | Unsummed::NotRequests => 4,
         }

@@ -6,7 +6,6 @@ ghost use Rattle.entries.specs.declared.taker.Override.{Override as Change};
 ghost use Rattle.entries.specs.Requests.{take_answer, declined_number};
 
 use crate::entry::*;
-use crate::refusal::Numbered;
 use crate::request::*;
 use thiserror::Error;
 
@@ -19,10 +18,11 @@ pub enum Declined {
     IntakeTooSmall = 10,
 }
 
-impl Numbered for Declined {
-    ghost meant = { declined_number };
-
-    fn number(self) -> u8 {
+impl Declined {
+    // The number that a caller meets: 4 or 10.
+    pub fn number(self) -> u8
+        ensures { result ≡ declined_number self }
+    {
         self as u8
     }
 }

@@ -3,7 +3,7 @@ ghost use Rattle.std.specs.Prelude.{◌≡◌, ◌≤◌};
 ghost use Rattle.entries.specs.Triggers.{is_condition, is_limit};
 ghost use Rattle.entries.specs.Numbers.{trigger_number, IsTriggerOf};
 
-use crate::refusal::UnknownNumber;
+use crate::number::UnknownNumber;
 
 // One more than the last number: a table by trigger number has so many places, and uses all but the first.
 pub const TRIGGERS: usize = 21;

@@ -3,7 +3,6 @@ ghost use Rattle.std.specs.Prelude.{◌≡◌};
 ghost use Rattle.journal.specs.Faults.{fault_number, fault_place, past_end_number};
 
 use crate::layout::*;
-use entries::refusal::Numbered;
 use thiserror::Error;
 
 // What is wrong with a journal's bytes.
@@ -21,19 +20,18 @@ pub enum Fault {
     RequestCount,
 }
 
-impl Numbered for Fault {
-    ghost meant = { fault_number };
-
-    fn number(self) -> u8 {
+impl Fault {
+    // The number that a caller meets: 11, 12 or 13.
+    pub fn number(self) -> u8
+        ensures { result ≡ fault_number self }
+    {
         match self {
             Fault::Length(_) => 11,
             Fault::FreeOffset | Fault::Spare | Fault::RequestCount => 12,
             Fault::Form(_) => 13,
         }
     }
-}
 
-impl Fault {
     // The place: the length, the offset of the header's number, or that of the entry.
     pub fn place(self) -> usize
         ensures { result ≡ fault_place self }
@@ -53,10 +51,11 @@ impl Fault {
 #[error("the index is past the last entry")]
 pub struct PastEnd;
 
-impl Numbered for PastEnd {
-    ghost meant = { λ _. past_end_number };
-
-    fn number(self) -> u8 {
+impl PastEnd {
+    // The number that a caller meets: 4.
+    pub fn number(self) -> u8
+        ensures { result ≡ past_end_number }
+    {
         4
     }
 }

@@ -4,7 +4,7 @@ ghost use Rattle.session.specs.declared.answer.NotMade.TheVariants.{NoMemory};
 ghost use Rattle.session.specs.declared.answer.Refusal.TheVariants.{OutOfRange};
 ghost use Rattle.session.specs.Answers.{number, not_made_number};
 
-use entries::refusal::*;
+use entries::number::UnknownNumber;
 use std::alloc::AllocError;
 use thiserror::Error;
 
@@ -33,11 +33,11 @@ pub enum Refusal {
     IntakeTooSmall,
 }
 
-// The number that a caller meets: 1 to 10.
-impl Numbered for Refusal {
-    ghost meant = { number };
-
-    fn number(self) -> u8 {
+impl Refusal {
+    // The number that a caller meets: 1 to 10.
+    pub fn number(self) -> u8
+        ensures { result ≡ number self }
+    {
         self as u8
     }
 }
@@ -60,11 +60,11 @@ pub enum NotMade {
     NoMemory = 14,
 }
 
-// The number that a caller meets: 4 or 14.
-impl Numbered for NotMade {
-    ghost meant = { not_made_number };
-
-    fn number(self) -> u8 {
+impl NotMade {
+    // The number that a caller meets: 4 or 14.
+    pub fn number(self) -> u8
+        ensures { result ≡ not_made_number self }
+    {
         self as u8
     }
 }
