@@ -52,7 +52,7 @@ impl Fault {
 pub struct PastEnd;
 
 impl PastEnd {
-    // The number that a caller meets: 4.
+    // The number that a caller meets.
     pub fn number(self) -> u8
         ensures { result ≡ past_end_number }
     {
