@@ -2,9 +2,12 @@
 // reports around a tariff change, and the end.
 #![tactic(auto)]
 
-ghost use Rattle.std.specs.Prelude.{◌≡◌, ℕ, Ok};
+ghost use Rattle.std.specs.Prelude.{◌≡◌, ℕ, Bool, Ok, IfOk};
 ghost use Rattle.session.specs.Slips.{Spendable};
+ghost use Rattle.session.specs.Steps.{as_made};
 ghost use Rattle.session.specs.View.{view};
+ghost use Rattle.entries.specs.Columns.{converged};
+ghost use Rattle.sample.specs.Short.{short_making, Counted, Charged, given_up};
 
 use anyhow::{Result, bail, ensure};
 use entries::key::*;
@@ -36,7 +39,8 @@ fn expect(answer: Reported, closed: usize) -> Result<()> {
 
 // The calls between opening and finish, where the opening met no profile. They leave the slip as it is.
 fn count<F: Taker>(session: &mut Session<Converged>, opened: Opened, function: &mut F) -> Result<()>
-    ensures { (slip : ℕ) → Spendable (view session.old.ledger) slip 140 → Spendable (view session.new.ledger) slip 140 }
+    ensures kept { (slip : ℕ) → Spendable (view session.old.ledger) slip 140 → Spendable (view session.new.ledger) slip 140 }
+    ensures counted { IfOk result (λ _. Counted (view session.old.ledger) (view session.new.ledger) (F.Taker.book function.old) (F.Taker.book function.new)) }
 {
     ensure!(
         opened.applied == 0 && opened.passed == 0,
@@ -53,7 +57,8 @@ fn count<F: Taker>(session: &mut Session<Converged>, opened: Opened, function: &
 
 // Gives the slip back where the session cannot be finished; it stays with the caller where not even a shelving takes it.
 pub fn give_up(session: &mut Session<Converged>, slip: Slip) -> Result<(), Slip>
-    ensures { Spendable (view session.old.ledger) slip.id 140 → result ≡ Ok tt }
+    ensures taken { Spendable (view session.old.ledger) slip.id 140 → result ≡ Ok tt }
+    ensures after { view session.new.ledger ≡ (given_up (view session.old.ledger) slip.id).state }
 {
     match session.shelve(140, slip) {
         Ok(_) => Ok(()),
@@ -72,10 +77,9 @@ fn put_back(session: &mut Session<Converged>, slip: Slip)
 }
 
 // The session from its opening to its end. An error leaves no slip behind.
-pub fn charge<F: ChargingFunction>(
-    session: &mut Session<Converged>,
-    function: &mut F,
-) -> Result<()> {
+pub fn charge<F: ChargingFunction>(session: &mut Session<Converged>, function: &mut F) -> Result<()>
+    ensures { IfOk result (λ _. Charged (view session.old.ledger) (view session.new.ledger) (F.ChargingFunction.profile function.old) (F.Taker.book function.old) (F.Taker.book function.new)) }
+{
     let (opened, slip) = session.open(100, function)?;
     if let Err(why) = count(session, opened, function) {
         put_back(session, slip);
@@ -91,6 +95,8 @@ pub fn charge<F: ChargingFunction>(
     }
 }
 
-pub fn make_session(heap: Global) -> Result<Session<Converged>> {
+pub fn make_session(heap: Global) -> Result<Session<Converged>>
+    ensures { IfOk result (λ s. (memory : Bool) × (view s.ledger ≡ as_made converged (short_making memory))) }
+{
     Ok(Session::new(heap, Converged, CHARGING_ID, NO_LIMITS)?)
 }
