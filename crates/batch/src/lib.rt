@@ -74,7 +74,7 @@ fn give_back(session: &mut Session<Converged>, slip: Slip)
 {
     match session.shelve(session.last(), slip) {
         Ok(_) => {}
-        Err(_) => unreachable(),
+        Err(_) => unreachable!(),
     }
 }
 

@@ -1,8 +1,8 @@
 -- Laws of lists that are written into from a place on.
-use Rattle.std.proofs.Common.{◌≡◌, ℕ, suc, ◌+◌, ◌-◌, ◌<◌, ◌≤◌, min, List, [], ◌∷◌, ◌++◌, length, take, drop, set, sym, ap, ◌∙◌, ⊎_elim, append_assoc, add-zero, zero-add, arith, length-append, length-drop, length-take}
+use Rattle.std.proofs.Common.{◌≡◌, ℕ, suc, ◌+◌, ◌<◌, ◌≤◌, min, List, [], ◌∷◌, ◌++◌, length, take, drop, set, sym, ap, ◌∙◌, ⊎_elim, append_assoc, add-zero, arith, length-append, length-drop, length-take}
 use Rattle.std.proofs.lemmas.Bool.{cases_lt}
 use borrow.Rule.Slice.PartMut.{put_mid}
-use Rattle.std.proofs.lemmas.List.{take_at, drop_at, length-take-le, take_more_set, drop-set-lt, drop-drop, set_split, take-append-drop, take_all, take_rest, drop_all, append-nil}
+use Rattle.std.proofs.lemmas.List.{take_at, drop_at, length-take-le, take_more_set, drop-set-lt, drop-drop, take-append-drop, take_all}
 use Rattle.entries.specs.Written.{written}
 
 -- the part up to the end of what is written
@@ -33,10 +33,6 @@ pub written_part : {X : Type 0} (t : List X) (at k : ℕ) (es ys : List X) → y
 unfolding written
 written_part t at k es ys e f = rw (e, f, drop-drop)
 
-pub written_one : {X : Type 0} (t : List X) (at : ℕ) (x : X) → at < length t → set t at x ≡ written t at (x ∷ [])
-unfolding written
-written_one t at x h = let i : suc at ≡ at + 1 = omega arith in set_split t at x h ∙ ap (λ n. take at t ++ (x ∷ drop n t)) i
-
 -- one part written after the other
 pub written_next : {X : Type 0} (t : List X) (at : ℕ) (xs ys : List X) (n : ℕ) → at ≤ length t → n ≡ at + length xs → written (written t at xs) n ys ≡ written t at (xs ++ ys)
 unfolding written
@@ -54,13 +50,6 @@ written_none t at = rw add-zero (take-append-drop at t)
 pub length_written : {X : Type 0} (t : List X) (at : ℕ) (es : List X) → at + length es ≤ length t → length (written t at es) ≡ length t
 unfolding written
 length_written t at es h = simp (length-append, length-take, length-drop) (omega arith)
-
--- what is written at the beginning of the tail that is lent
-pub written_tail : {X : Type 0} (t : List X) (at : ℕ) (es ys : List X) → at ≤ length t → ys ≡ written (take (length t - at) (drop at t)) 0 es → put_mid at (length t - at) t ys ≡ written t at es
-unfolding written
-written_tail t at es ys h e =
-    let l : length (drop at t) ≤ length t - at = simp length-drop (omega arith) in
-    rw (e, take_rest t at, drop_all (length t - at) (drop at t) l, drop-drop (0 + length es) at t, zero-add, append-nil)
 
 -- a part that ends at the end of the list at the latest
 pub take_min : {X : Type 0} (t : List X) (u m : ℕ) → m ≡ min u (length t) → take m t ≡ take u t

@@ -61,6 +61,9 @@ impl<W: Display, T> Display for Refused<W, T> {
 
 impl<W: Error, T: Drop> Error for Refused<W, T> {}
 
+// The intake of what is left of a charging function.
+const NO_INTAKE: usize = 0;
+
 // What is left of a charging function takes nothing for good, and has no profile.
 impl<T> Taker for Refused<Unmade, T> {
     ghost book = { λ _. [] };
@@ -70,11 +73,11 @@ impl<T> Taker for Refused<Unmade, T> {
     ghost took = { λ _ _ _ _. ⊥ };
 
     fn intake(&self) -> usize {
-        0
+        NO_INTAKE
     }
 
     fn take(&mut self, head: &Entry, containers: &[Entry]) -> Result<(), Declined> {
-        admit(head, containers, 0)
+        admit(head, containers, NO_INTAKE)
     }
 }
 

@@ -10,17 +10,17 @@ use std::marker::Model;
 // What an override makes of a trigger that is enabled or not.
 #[derive(Clone, Copy, PartialEq, Eq, Debug)]
 pub enum Switch {
-    Leave,
-    Enable,
-    Disable,
+    Leave = 0,
+    Enable = 1,
+    Disable = 2,
 }
 
 // What an override makes of a trigger's category.
 #[derive(Clone, Copy, PartialEq, Eq, Debug)]
 pub enum Category {
-    Leave,
-    Deferred,
-    Immediate,
+    Leave = 0,
+    Deferred = 1,
+    Immediate = 2,
 }
 
 impl Switch {
@@ -45,12 +45,12 @@ impl TryFrom<u8> for Switch {
     ghost try_from_gives = { IsSwitchOf };
 
     fn try_from(number: u8) -> Result<Switch, UnknownNumber> {
-        match number {
-            0 => Ok(Switch::Leave),
-            1 => Ok(Switch::Enable),
-            2 => Ok(Switch::Disable),
-            _ => Err(UnknownNumber),
-        }
+        Ok(match number {
+            0 => Switch::Leave,
+            1 => Switch::Enable,
+            2 => Switch::Disable,
+            _ => return Err(UnknownNumber),
+        })
     }
 }
 
@@ -60,12 +60,12 @@ impl TryFrom<u8> for Category {
     ghost try_from_gives = { IsCategoryOf };
 
     fn try_from(number: u8) -> Result<Category, UnknownNumber> {
-        match number {
-            0 => Ok(Category::Leave),
-            1 => Ok(Category::Deferred),
-            2 => Ok(Category::Immediate),
-            _ => Err(UnknownNumber),
-        }
+        Ok(match number {
+            0 => Category::Leave,
+            1 => Category::Deferred,
+            2 => Category::Immediate,
+            _ => return Err(UnknownNumber),
+        })
     }
 }
 

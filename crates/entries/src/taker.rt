@@ -54,7 +54,7 @@ pub trait Taker {
     fn intake(&self) -> usize
         ensures { result ≡ room self.now };
 
-    // Takes a request, or declines it and stays as it is. Head and containers stay apart, as every promise names them apart.
+    // Takes a request, or declines it and stays as it is. Head and containers are apart, as a taker of anybody's has them.
     fn take(&mut self, head: &Entry, containers: &[Entry]) -> Result<(), Declined>
         ensures answer { result ≡ take_answer head.now containers.now (room self.old) }
         ensures after { book self.new ≡ (if is_ok result then book self.old ++ (head.now ∷ containers.now) else book self.old) }
@@ -65,8 +65,9 @@ pub trait Taker {
 // The most overrides of a profile.
 pub const MOST_OVERRIDES: usize = 32;
 
-// What a charging function wants of a trigger, in the numbers in which it comes: a trigger, a switch, a category, and a
-// threshold, of which 0 leaves what was. A number that is none of these may stand there; it is passed over.
+// What a charging function wants of a trigger, in the numbers in which it comes: of a trigger, of a `Switch`, of a
+// `Category`, and a threshold, of which 0 leaves what was. Any number may stand there; an override with one that is none of
+// these is passed over.
 #[derive(Clone, Copy, PartialEq, Eq, Debug)]
 pub struct Override {
     pub trigger: u8,

@@ -40,7 +40,7 @@ impl Trigger {
         self as u8
     }
 
-    // Whether it is a change of conditions.
+    // Whether it is a change of conditions: those come first, in the order of the numbers.
     pub fn is_condition(self) -> bool
         ensures { result ≡ is_condition (trigger_number self) }
     {

@@ -13,6 +13,7 @@ use entries::taker::*;
 
 #[derive(Drop)]
 pub struct Journal<'a> {
+    // lent, so that a charging function needs no heap
     bytes: &'a mut [u8],
     // how many were taken; the entries are both together
     requests: u32,

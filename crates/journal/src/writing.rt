@@ -14,6 +14,7 @@ fn write_entries(bytes: &mut [u8], at: usize, es: &[Entry])
     ensures bytes { bytes.new ≡ written bytes.old at (all_bytes es.now) }
     ensures fits { AllByRecursion EntryFits es.now }
 {
+    // of chunks to be written a proof would know the lengths alone
     for (i, e) in es.iter().enumerate() {
         put(bytes, at + ENTRY_SIZE * i, entry_bytes(*e));
     }

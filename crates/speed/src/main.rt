@@ -28,7 +28,7 @@ struct Load {
     reports: u64,
 }
 
-// The load from the arguments; none where these are no such numbers.
+// The load from the arguments: 1 to 32 lines, else none; a second word that is no number asks for no report.
 fn read_load(rt: &HostRuntime) -> Option<Load> {
     let mut words = env::args(rt).ok()?.skip(1);
     let lines = words.next().map_or(Some(8), |word| word.parse().ok())?;

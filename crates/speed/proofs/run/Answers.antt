@@ -10,6 +10,6 @@ unreachable-requires c =
     let opened = opens_with _ _ _ _ _ _ _ _ c.in_ok-slip.ensures.does refl _ 140 c.in_ok-slip.ensures.handed (omega arith) in
     let counted = c.count_reports-accepted.ensures _ (c.start_lines.ensures _ opened) in
     let kept : Spendable (view c.finish.new.self.ledger) c.in-Err.slip.id 140 = rw (e.refused refl).0 (rw e.back counted) in
-    let taken = c.give_up.ensures kept in
+    let taken = c.give_up.ensures.taken kept in
     let was = c.in-Err-give_up.is in
     cc
