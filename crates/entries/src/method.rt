@@ -76,6 +76,8 @@ fn table_rule(trigger: u8, area: Option<Rule>, moved: Rule, ended: Rule) -> Opti
     }
 }
 
+// Each method is a kind of keys, and what differs in its column.
+
 // Flow based charging, converged.
 #[derive(Clone, Copy, PartialEq, Eq, Debug)]
 pub struct Converged;

@@ -86,7 +86,8 @@ impl Ledger {
         closing_act(edit, chosen, trigger, marks, self.is_urgent(trigger))
     }
 
-    // The index of the line with an identity.
+    // The index of the line with an identity. There are 32 at most, in the order in which they close, and their memory is
+    // reserved: a map would allocate in a call.
     pub(crate) fn place(&self, id: LineId) -> Option<usize>
         ensures place { result ≡ place_of (view self.now) id }
         ensures inside { IfSome result (λ i. i < vec_len self.now.lines) }

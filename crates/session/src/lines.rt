@@ -9,7 +9,7 @@ use crate::state::*;
 use entries::entry::*;
 
 impl Line {
-    // The line with a report counted.
+    // The line with a report counted. Its totals may be too large until that is looked at, so no type keeps them bounded.
     pub(crate) fn count(self, volume: Volume) -> Line
         requires { Bounded self }
         ensures value { result ≡ counted volume.up volume.down self }

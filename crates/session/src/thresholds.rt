@@ -65,6 +65,7 @@ impl Thresholds {
         }
     }
 
+    // Of the trigger of a number: a method's column may have a rule at any.
     fn make_setting(&self, rule: Option<Rule>, n: u8) -> Setting
         ensures { result ≡ setting_made rule self.now n }
     {
