@@ -92,12 +92,14 @@ pub(crate) fn apply<M: Method, F: ChargingFunction>(
     ensures passed { result.passed ≡ length (F.ChargingFunction.profile function.now) - applied_count M.Method.column (F.ChargingFunction.profile function.now) }
 {
     let mut applied: usize = 0;
-    // how many there are is part of the answer, and the function is asked by index
     let mut seen: usize = 0;
-    while let Some(o) = function.override_at(seen) {
-        seen += 1;
-        if apply_one(settings, method.rule(o.trigger), o) {
-            applied += 1;
+    // by index, as the function is asked one by one; a loop over `map_while` was tried, and its proof does not check
+    for i in 0..MOST_OVERRIDES {
+        if let Some(o) = function.override_at(i) {
+            seen += 1;
+            if apply_one(settings, method.rule(o.trigger), o) {
+                applied += 1;
+            }
         }
     }
     Opened {
