@@ -59,7 +59,7 @@ impl Ledger {
         ensures refused { is_ok result ≡ false → (self.new ≡ self.old) × (taker.new ≡ taker.old) }
     {
         let act = self.decide(event, 0, t)?;
-        let closed = self.places(&act, t)?;
+        let closed = self.room_for(&act, t)?;
         self.perform(act, t);
         let due = self.report(act.due, act.report, t, taker);
         Ok(Reported { closed, due })
@@ -94,7 +94,7 @@ impl Ledger {
         ensures refused { is_ok result ≡ false → (self.new ≡ self.old) × (taker.new ≡ taker.old) }
     {
         let act = self.decide(Event::Finish(cause), slip, t)?;
-        let n = self.waiting.len() + self.places(&act, t)?;
+        let n = self.waiting.len() + self.room_for(&act, t)?;
         if taker.intake() < n + 1 {
             return Err(Refusal::IntakeTooSmall);
         }

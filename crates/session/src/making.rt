@@ -72,6 +72,7 @@ impl<M: Method> Session<M> {
         ensures { Made M.Method.column id thresholds (refused_why result) (view (made result).ledger) }
     {
         let settings = thresholds.settings(&method);
+        // no `map_err`, as both arms take the method
         match Ledger::fresh(heap, id, &thresholds, settings) {
             Ok(ledger) => Ok(Session { method, ledger }),
             Err(why) => {

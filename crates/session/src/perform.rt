@@ -58,7 +58,7 @@ impl Ledger {
 
     // How many lines an act closes, or why there is no place for their containers: the numbers and the waiting list have
     // limits.
-    pub(crate) fn places(&self, act: &Act, t: u32) -> Result<usize, Refusal>
+    pub(crate) fn room_for(&self, act: &Act, t: u32) -> Result<usize, Refusal>
         ensures { result ≡ unless (no_place (view self.now) act.now t) (closed_by (view self.now) act.now t) }
     {
         let n = self.closing(act.chosen, t);

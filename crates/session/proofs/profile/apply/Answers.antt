@@ -1,16 +1,21 @@
-use Rattle.std.proofs.Common.{true, false, refl, arith}
-use Rattle.session.proofs.Overrides.{turn_some, turn_all}
+use Rattle.std.proofs.Common.{true, false, ◌∙◌, arith}
+use Rattle.session.proofs.Overrides.{turn_some, turn_past, turn_all}
 use Rattle.session.proofs.profile.apply.Goals as goal
+use Rattle.session.proofs.profile.apply.Goals.{in-Some+then-apply_one, in-Some+else-apply_one, in_default}
 
-pub loop-o-preserved-then-apply_one : goal.loop-o-preserved-then-apply_one
-loop-o-preserved-then-apply_one g c =
-    turn_some c.in-Some.o _ true c.in-Some.ensures.value c.rule.ensures c.if-apply_one.ensures.answer c.apply_one.ensures.after refl c.loop-o.invariant
-
-pub loop-o-preserved : goal.loop-o-preserved
-loop-o-preserved g c =
-    turn_some c.in-Some.o _ false c.in-Some.ensures.value c.rule.ensures c.if-apply_one.ensures.answer c.apply_one.ensures.after (omega arith) c.loop-o.invariant
+pub loop-i-preserved : goal.loop-i-preserved
+loop-i-preserved g c =
+    elim c.match-override_at.branch [
+      | in-Some+then-apply_one w ↦
+          turn_some w.in-Some.o _ true w.in-Some.ensures.value c.override_at.ensures.few w.rule.ensures w.if-apply_one.ensures.answer
+          (w.settings-is ∙ w.apply_one.ensures.after) w.applied-is w.seen-is c.loop-i.invariant
+      | in-Some+else-apply_one w ↦
+          turn_some w.in-Some.o _ false w.in-Some.ensures.value c.override_at.ensures.few w.rule.ensures w.if-apply_one.ensures.answer
+          (w.settings-is ∙ w.apply_one.ensures.after) (omega (arith, w.applied-is)) w.seen-is c.loop-i.invariant
+      | in_default w ↦ turn_past w.in_default.ensures.value c.override_at.ensures.few w.settings-is w.applied-is w.seen-is c.loop-i.invariant
+    ]
 
 pub returns : goal.returns
 returns g c =
-    let k = turn_all c.in_default.ensures.value c.loop-o.invariant in
+    let k = turn_all c.loop-i-test.false c.loop-i.invariant in
     record { after = k.0; applied = k.1; passed = omega (arith, k.1, k.2) }
