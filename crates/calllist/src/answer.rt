@@ -1,6 +1,5 @@
 // Answers as they are printed.
 ghost use Rattle.std.specs.Prelude.{◌≡◌, Some};
-ghost use Rattle.calllist.specs.Shown.{making_answer};
 
 use crate::stop::Stop;
 use entries::making::Unmade;
@@ -33,15 +32,6 @@ impl From<Refusal> for Rejection {
 
     fn from(why: Refusal) -> Rejection {
         Rejection::Call(why)
-    }
-}
-
-impl Answer {
-    // Of the making of a session or a book.
-    pub(crate) fn of_making(refused: Option<Rejection>) -> Result<Answer, Rejection>
-        ensures { result ≡ making_answer refused }
-    {
-        refused.map_or(Ok(Answer::Made), Err)
     }
 }
 

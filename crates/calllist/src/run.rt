@@ -63,7 +63,7 @@ fn run(rt: &HostRuntime, input: &mut Input) -> Result<(), Stop> {
     let mut table = vec![in rt.alloc(); BLANK_ENTRY; asked]?;
     match Book::new(&mut table, &overrides) {
         Ok(book) => {
-            say(rt, "book", Answer::of_making(None))?;
+            say(rt, "book", Ok(Answer::Made))?;
             let mut link = Link::new(book);
             play_on(rt, input, session, &mut link)?;
             for e in link.below().entries() {
@@ -73,7 +73,7 @@ fn run(rt: &HostRuntime, input: &mut Input) -> Result<(), Stop> {
         }
         Err(refused) => {
             let why = places_refused(refused.why, places);
-            say(rt, "book", Answer::of_making(Some(why)))?;
+            say(rt, "book", Err(why))?;
             play_on(rt, input, session, &mut Link::new(refused))
         }
     }

@@ -24,11 +24,11 @@ fn make_session<M: Method>(
     method: M,
     line: SessionLine,
 ) -> Result<Session<M>, Stop> {
-    let (session, refused) = match Session::new(rt.alloc(), method, line.id, line.thresholds) {
-        Ok(session) => (session, None),
-        Err(Refused { why, left }) => (left, Some(Rejection::Session(why))),
+    let (session, answer) = match Session::new(rt.alloc(), method, line.id, line.thresholds) {
+        Ok(session) => (session, Ok(Answer::Made)),
+        Err(Refused { why, left }) => (left, Err(Rejection::Session(why))),
     };
-    say(rt, "session", Answer::of_making(refused))?;
+    say(rt, "session", answer)?;
     Ok(session)
 }
 
