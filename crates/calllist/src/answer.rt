@@ -28,10 +28,10 @@ pub enum Rejection {
 impl From<Refusal> for Rejection {
     ghost use Rattle.calllist.specs.declared.answer.Rejection.TheVariants.{Call};
 
-    ghost from_gives = { λ why r. r ≡ Call why };
+    ghost from_gives = { λ refusal r. r ≡ Call refusal };
 
-    fn from(why: Refusal) -> Rejection {
-        Rejection::Call(why)
+    fn from(refusal: Refusal) -> Rejection {
+        Rejection::Call(refusal)
     }
 }
 
