@@ -93,6 +93,7 @@ fn explain(rt: &impl Eprint, stop: Stop, number: u64) {
 pub fn replay(rt: &HostRuntime) -> Result<(), Stop> {
     let (result, number) = match Input::new(rt.alloc(), rt.stdin()) {
         Ok(mut input) => (run(rt, &mut input), input.number),
+        // no line was read, and want of memory is told without a number
         Err(_) => (Err(Stop::Memory), 0),
     };
     if let Err(stop) = result {

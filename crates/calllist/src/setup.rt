@@ -10,7 +10,7 @@ use entries::taker::*;
 use session::session::Session;
 use std::alloc::AllocError;
 
-// A session of any of the methods.
+// A session of any of the methods. Sessions of other keys are other types, and a boxed one may not be handed out.
 #[derive(Drop)]
 pub enum AnySession {
     Converged(Session<Converged>),
