@@ -1,3 +1,4 @@
 pub mod Shown
 pub mod Held
 pub mod Printed
+pub mod Words

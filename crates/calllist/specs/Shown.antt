@@ -1,4 +1,4 @@
--- What makings and calls answer.
+-- What calls answer.
 use Rattle.std.specs.Prelude.{◌≡◌, ℕ, List, [], Some, None, Option, Ok, Err, Result}
 use Rattle.entries.specs.declared.taker.Override.{Override}
 use Rattle.entries.specs.Columns.{Column}
@@ -13,14 +13,6 @@ use Rattle.calllist.specs.declared.answer.Answer.{Answer}
 use Rattle.calllist.specs.declared.answer.Answer.TheVariants.{Made, Opened, Reported, Sent, Waiting}
 use Rattle.calllist.specs.declared.answer.Rejection.{Rejection}
 use Rattle.calllist.specs.declared.answer.Rejection.TheVariants.{Session, Book, Call, NoSlip}
-
--- makings
-
-abbrev pub making_answer : Option Rejection → Result Answer Rejection
-making_answer None = Ok Made
-making_answer (Some why) = Err why
-
--- calls
 
 -- what a call told, as an answer of a step
 abbrev pub told : Result Answer Rejection → Option StepAnswer

@@ -1,6 +1,5 @@
 // Answers as they are printed.
 ghost use Rattle.std.specs.Prelude.{◌≡◌, Some};
-ghost use Rattle.calllist.specs.Shown.{making_answer};
 
 use crate::stop::Stop;
 use entries::making::Unmade;
@@ -29,19 +28,10 @@ pub enum Rejection {
 impl From<Refusal> for Rejection {
     ghost use Rattle.calllist.specs.declared.answer.Rejection.TheVariants.{Call};
 
-    ghost from_gives = { λ why r. r ≡ Call why };
+    ghost from_gives = { λ refusal r. r ≡ Call refusal };
 
-    fn from(why: Refusal) -> Rejection {
-        Rejection::Call(why)
-    }
-}
-
-impl Answer {
-    // Of the making of a session or a book.
-    pub(crate) fn of_making(refused: Option<Rejection>) -> Result<Answer, Rejection>
-        ensures { result ≡ making_answer refused }
-    {
-        refused.map_or(Ok(Answer::Made), Err)
+    fn from(refusal: Refusal) -> Rejection {
+        Rejection::Call(refusal)
     }
 }
 

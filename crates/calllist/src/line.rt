@@ -1,4 +1,7 @@
 // The lines of a call list.
+ghost use Rattle.std.specs.Prelude.{◌≡◌};
+ghost use Rattle.calllist.specs.Words.{line_named, method_named};
+
 use crate::key::ReadKey;
 use crate::stop::*;
 use entries::taker::Override;
@@ -38,6 +41,8 @@ pub enum Name {
 impl FromStr for Name {
     type Err = Wrong;
 
+    ghost from_str_gives = { λ word r. r ≡ line_named word };
+
     fn from_str(word: &str) -> Result<Name, Wrong> {
         match word {
             "session" => Ok(Name::Session),
@@ -68,6 +73,8 @@ pub enum MethodName {
 
 impl FromStr for MethodName {
     type Err = Wrong;
+
+    ghost from_str_gives = { λ word r. r ≡ method_named word };
 
     fn from_str(word: &str) -> Result<MethodName, Wrong> {
         match word {

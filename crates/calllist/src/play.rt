@@ -48,6 +48,7 @@ impl<M: Method> Player<M> {
         Ok(Answer::Opened(opened))
     }
 
+    // The slip of a refused call is held again here and in shelve: a function for both would have to be told that it can still be spent.
     fn finish<F: Taker>(&mut self, cause: u8, t: u32, taker: &mut F) -> Result<Answer, Rejection>
         ensures { Tells result (by_slip self.old.held (λ s. (step M.Method.column (view self.old.session.ledger) (seen M.Key.LineKey.coding (fed (Finishing cause) s.id t (F.Taker.room taker.old) []))).answer)) }
     {

@@ -63,7 +63,7 @@ fn run(rt: &HostRuntime, input: &mut Input) -> Result<(), Stop> {
     let mut table = vec![in rt.alloc(); BLANK_ENTRY; asked]?;
     match Book::new(&mut table, &overrides) {
         Ok(book) => {
-            say(rt, "book", Answer::of_making(None))?;
+            say(rt, "book", Ok(Answer::Made))?;
             let mut link = Link::new(book);
             play_on(rt, input, session, &mut link)?;
             for e in link.below().entries() {
@@ -73,7 +73,7 @@ fn run(rt: &HostRuntime, input: &mut Input) -> Result<(), Stop> {
         }
         Err(refused) => {
             let why = places_refused(refused.why, places);
-            say(rt, "book", Answer::of_making(Some(why)))?;
+            say(rt, "book", Err(why))?;
             play_on(rt, input, session, &mut Link::new(refused))
         }
     }
@@ -93,6 +93,7 @@ fn explain(rt: &impl Eprint, stop: Stop, number: u64) {
 pub fn replay(rt: &HostRuntime) -> Result<(), Stop> {
     let (result, number) = match Input::new(rt.alloc(), rt.stdin()) {
         Ok(mut input) => (run(rt, &mut input), input.number),
+        // no line was read, and want of memory is told without a number
         Err(_) => (Err(Stop::Memory), 0),
     };
     if let Err(stop) = result {

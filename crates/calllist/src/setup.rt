@@ -10,7 +10,7 @@ use entries::taker::*;
 use session::session::Session;
 use std::alloc::AllocError;
 
-// A session of any of the methods.
+// A session of any of the methods. Sessions of other keys are other types, and a boxed one may not be handed out.
 #[derive(Drop)]
 pub enum AnySession {
     Converged(Session<Converged>),
@@ -24,11 +24,11 @@ fn make_session<M: Method>(
     method: M,
     line: SessionLine,
 ) -> Result<Session<M>, Stop> {
-    let (session, refused) = match Session::new(rt.alloc(), method, line.id, line.thresholds) {
-        Ok(session) => (session, None),
-        Err(Refused { why, left }) => (left, Some(Rejection::Session(why))),
+    let (session, answer) = match Session::new(rt.alloc(), method, line.id, line.thresholds) {
+        Ok(session) => (session, Ok(Answer::Made)),
+        Err(Refused { why, left }) => (left, Err(Rejection::Session(why))),
     };
-    say(rt, "session", Answer::of_making(refused))?;
+    say(rt, "session", answer)?;
     Ok(session)
 }
 

@@ -1,4 +1,7 @@
 // What ends a run early.
+ghost use Rattle.std.specs.Prelude.{◌≡◌};
+ghost use Rattle.calllist.specs.declared.stop.Stop.TheVariants.{Line, Output, Memory};
+
 use std::alloc::AllocError;
 use std::{fmt, io};
 
@@ -43,6 +46,8 @@ pub enum Stop {
 }
 
 impl From<Wrong> for Stop {
+    ghost from_gives = { λ wrong r. r ≡ Line wrong };
+
     fn from(wrong: Wrong) -> Stop {
         Stop::Line(wrong)
     }
@@ -50,12 +55,16 @@ impl From<Wrong> for Stop {
 
 // Of printing; input that cannot be read is told apart where it is read.
 impl From<io::Error> for Stop {
+    ghost from_gives = { λ _ r. r ≡ Output };
+
     fn from(_error: io::Error) -> Stop {
         Stop::Output
     }
 }
 
 impl From<AllocError> for Stop {
+    ghost from_gives = { λ _ r. r ≡ Memory };
+
     fn from(_error: AllocError) -> Stop {
         Stop::Memory
     }
