@@ -9,7 +9,7 @@ use Rattle.calllist.specs.declared.line.MethodName.TheVariants.{Converged, Offli
 use Rattle.calllist.specs.declared.stop.Wrong.{Wrong}
 use Rattle.calllist.specs.declared.stop.Wrong.TheVariants.{UnknownLine, Method}
 
--- the first word of a line
+-- the line that its first word names
 abbrev pub line_named : List ℕ → Result Name Wrong
 line_named word =
     if bytes_eq word (codes "session") then Ok Session
@@ -28,7 +28,7 @@ line_named word =
     else if bytes_eq word (codes "shelve") then Ok (Call Shelve)
     else Err UnknownLine
 
--- the method of a session
+-- the method that a word names
 abbrev pub method_named : List ℕ → Result MethodName Wrong
 method_named word =
     if bytes_eq word (codes "converged") then Ok Converged
