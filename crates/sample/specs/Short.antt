@@ -1,5 +1,5 @@
 -- The short session, call by call.
-use Rattle.std.specs.Prelude.{◌≡◌, ℕ, Bool, List, [], ◌∷◌, ◌++◌, None}
+use Rattle.std.specs.Prelude.{◌≡◌, ℕ, true, List, [], ◌∷◌, ◌++◌, None}
 use Rattle.entries.specs.declared.entry.Entry.{Entry}
 use Rattle.entries.specs.declared.key.ServiceKey.{ServiceKey}
 use Rattle.entries.specs.declared.taker.Override.{Override}
@@ -10,14 +10,14 @@ use Rattle.session.specs.declared.event.Event.TheVariants.{Open as Opening, Star
 use Rattle.session.specs.Answers.{Answer}
 use Rattle.session.specs.Performing.{Outcome}
 use Rattle.session.specs.State.{State}
-use Rattle.session.specs.Steps.{Making, Fed, fed, seen, step, Run, after}
+use Rattle.session.specs.Steps.{Making, Fed, fed, seen, step, accepted, Run, after}
 
--- charging id 7 and no limits
-abbrev pub short_making : (memory : Bool) → Making
-short_making memory = record {
+-- charging id 7 and no limits, where there is memory
+abbrev pub short_making : Making
+short_making = record {
   id = 7;
   thresholds = record { session_time = 0; session_volume = 0; changes = 0; line_time = 0; line_volume = 0 };
-  memory = memory;
+  memory = true;
 }
 
 abbrev pub key : ServiceKey
@@ -44,8 +44,13 @@ short_calls opening finish room profile slip =
 abbrev pub run_from : State → List (Fed ServiceKey) → Run
 run_from s fs = after services converged (record { state = s; taken = [] }) fs
 
--- a session as calls leave it, and a book that gained what they add
+abbrev pub AllAccepted : State → List (Fed ServiceKey) → Type 0
+AllAccepted s [] = Unit {0}
+AllAccepted s (f ∷ fs) = (accepted (step converged s (seen services f)) ≡ true) × AllAccepted (step converged s (seen services f)).state fs
+
+-- calls that are all accepted, a session as they leave it, and a book that gained what they add
 pub record Ran (s : State) (fs : List (Fed ServiceKey)) (s' : State) (before later : List Entry) : Type 0 where
+  pub each : AllAccepted s fs
   pub becomes : s' ≡ (run_from s fs).state
   pub gains : later ≡ before ++ (run_from s fs).taken
 
@@ -54,9 +59,8 @@ pub record Counted (s s' : State) (before later : List Entry) : Type 0 where
   pub room : Intakes
   pub ran : Ran s (counting room) s' before later
 
--- all six were
-pub record Charged (s s' : State) (profile : List Override) (before later : List Entry) : Type 0 where
-  pub opening : ℕ
+-- all six were, the opening with the intake that the function had before
+pub record Charged (s s' : State) (opening : ℕ) (profile : List Override) (before later : List Entry) : Type 0 where
   pub finish : ℕ
   pub room : Intakes
   pub ran : Ran s (short_calls opening finish room profile s.id) s' before later

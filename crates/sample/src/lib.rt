@@ -2,7 +2,7 @@
 // reports around a tariff change, and the end.
 #![tactic(auto)]
 
-ghost use Rattle.std.specs.Prelude.{◌≡◌, ℕ, Bool, Ok, IfOk};
+ghost use Rattle.std.specs.Prelude.{◌≡◌, ℕ, Ok, IfOk};
 ghost use Rattle.session.specs.Slips.{Spendable};
 ghost use Rattle.session.specs.Steps.{as_made};
 ghost use Rattle.session.specs.View.{view};
@@ -78,7 +78,7 @@ fn put_back(session: &mut Session<Converged>, slip: Slip)
 
 // The session from its opening to its end. An error leaves no slip behind.
 pub fn charge<F: ChargingFunction>(session: &mut Session<Converged>, function: &mut F) -> Result<()>
-    ensures { IfOk result (λ _. Charged (view session.old.ledger) (view session.new.ledger) (F.ChargingFunction.profile function.old) (F.Taker.book function.old) (F.Taker.book function.new)) }
+    ensures { IfOk result (λ _. Charged (view session.old.ledger) (view session.new.ledger) (F.Taker.room function.old) (F.ChargingFunction.profile function.old) (F.Taker.book function.old) (F.Taker.book function.new)) }
 {
     let (opened, slip) = session.open(100, function)?;
     if let Err(why) = count(session, opened, function) {
@@ -96,7 +96,7 @@ pub fn charge<F: ChargingFunction>(session: &mut Session<Converged>, function: &
 }
 
 pub fn make_session(heap: Global) -> Result<Session<Converged>>
-    ensures { IfOk result (λ s. (memory : Bool) × (view s.ledger ≡ as_made converged (short_making memory))) }
+    ensures { IfOk result (λ s. view s.ledger ≡ as_made converged short_making) }
 {
     Ok(Session::new(heap, Converged, CHARGING_ID, NO_LIMITS)?)
 }

@@ -1,11 +1,11 @@
-use Rattle.std.proofs.Common.{ℕ, [], ◌++◌, refl, ap, ◌∙◌, arith}
+use Rattle.std.proofs.Common.{ℕ, [], ◌++◌, refl, sym, ap, ◌∙◌, arith}
 use Rattle.entries.specs.Columns.{converged}
 use Rattle.entries.specs.Keys.{services}
 use Rattle.entries.specs.Triggers.{session_end}
 use Rattle.session.specs.declared.event.Event.TheVariants.{Open as Opening, Finish}
 use Rattle.session.specs.Answers.{Answer}
 use Rattle.session.specs.Performing.{Outcome}
-use Rattle.session.specs.Steps.{fed, seen, step}
+use Rattle.session.specs.Steps.{fed, seen, step, is_accepted}
 use Rattle.session.specs.View.{view}
 use Rattle.sample.specs.Short.{counting}
 use Rattle.sample.proofs.Running.{ran_first, ran_both, ran_none}
@@ -33,12 +33,13 @@ returns-in-Ok-eq2 g c =
     let ended : ℕ → ℕ → Outcome Answer = λ (n slip : ℕ). step converged (view c.count.new.session.ledger) (seen services (fed (Finish n) slip 140 finish [])) in
     let e = c.in-Ok-eq2.ensures in
     record {
-      opening = opening;
       finish = finish;
       room = counted.room;
-      ran = ran_first (fed Opening 0 100 opening profile) c.in_ok-opened.ensures.does.becomes c.in_ok-opened.ensures.lends.gains
+      ran = ran_first (fed Opening 0 100 opening profile) (sym (ap is_accepted c.in_ok-opened.ensures.does.answers)) c.in_ok-opened.ensures.does.becomes c.in_ok-opened.ensures.lends.gains
           (ran_both (counting counted.room) counted.ran
           (ran_first (fed (Finish session_end) id 140 finish [])
+          (sym (ap (λ (k : ℕ). is_accepted (ended session_end k).answer) c.in_ok-opened.ensures.handed)
+          ∙ (sym (ap (λ (n : ℕ). is_accepted (ended n c.in_ok-opened.slip.id).answer) c.number.ensures.number) ∙ sym (ap is_accepted e.does.answers)))
           (e.does.becomes ∙ (ap (λ (n : ℕ). (ended n c.in_ok-opened.slip.id).state) c.number.ensures.number
           ∙ ap (λ (k : ℕ). (ended session_end k).state) c.in_ok-opened.ensures.handed))
           (e.lends.gains ∙ (ap (λ (n : ℕ). g.F.Taker.book c.count.new.function ++ (ended n c.in_ok-opened.slip.id).added) c.number.ensures.number
