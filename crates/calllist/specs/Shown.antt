@@ -1,8 +1,11 @@
--- What calls answer.
+-- What makings and calls answer.
 use Rattle.std.specs.Prelude.{◌≡◌, ℕ, List, [], Some, None, Option, Ok, Err, Result}
+use Rattle.entries.specs.declared.making.Unmade.{Unmade}
+use Rattle.entries.specs.declared.making.Unmade.TheVariants.{TooManyOverrides, WrongLength}
 use Rattle.entries.specs.declared.taker.Override.{Override}
 use Rattle.entries.specs.Columns.{Column}
 use Rattle.entries.specs.Keys.{Coding}
+use Rattle.session.specs.declared.answer.NotMade.{NotMade}
 use Rattle.session.specs.declared.event.Event.{Event}
 use Rattle.session.specs.declared.event.Event.TheVariants.{Open as Opening, Start, Usage, End, Change, Tick, Intervene, Push, Finish, Shelve}
 use Rattle.session.specs.declared.slip.Slip.{Slip}
@@ -13,6 +16,21 @@ use Rattle.calllist.specs.declared.answer.Answer.{Answer}
 use Rattle.calllist.specs.declared.answer.Answer.TheVariants.{Made, Opened, Reported, Sent, Waiting}
 use Rattle.calllist.specs.declared.answer.Rejection.{Rejection}
 use Rattle.calllist.specs.declared.answer.Rejection.TheVariants.{Session, Book, Call, NoSlip}
+
+-- makings: made, or why not
+
+abbrev pub session_made : Option NotMade → Result Answer Rejection
+session_made None = Ok Made
+session_made (Some why) = Err (Session why)
+
+-- a book of too many places is refused with the places that were asked for
+abbrev pub refused_at : (places : ℕ) → Unmade → Unmade
+refused_at places TooManyOverrides = TooManyOverrides
+refused_at places (WrongLength n) = WrongLength places
+
+abbrev pub book_made : (places : ℕ) → Option Unmade → Result Answer Rejection
+book_made places None = Ok Made
+book_made places (Some why) = Err (Book (refused_at places why))
 
 -- what a call told, as an answer of a step
 abbrev pub told : Result Answer Rejection → Option StepAnswer

@@ -4,10 +4,10 @@ ghost use Rattle.calllist.specs.Words.{line_named, method_named};
 
 use crate::key::ReadKey;
 use crate::stop::*;
+use arrayvec::ArrayVec;
 use entries::taker::Override;
 use session::event::Event;
 use session::thresholds::Thresholds;
-use std::alloc::Global;
 use std::num::ParseIntError;
 use std::slice::Iter;
 use std::str::FromStr;
@@ -121,19 +121,19 @@ pub struct Line<'a> {
     pub name: Name,
     // the name as it is written
     pub word: &'a str,
-    arguments: Vec<&'a str>,
+    arguments: ArrayVec<&'a str, MOST_ARGUMENTS>,
 }
 
 impl<'a> Line<'a> {
-    // None where the line is empty.
-    pub(crate) fn read(heap: Global, text: &'a str) -> Result<Option<Line<'a>>, Stop> {
+    // None where the line is empty. Nothing is allocated.
+    pub(crate) fn read(text: &'a str) -> Result<Option<Line<'a>>, Wrong> {
         let mut words = text.split_whitespace().take_while(|w| !w.starts_with('#'));
         let Some(word) = words.next() else {
             return Ok(None);
         };
-        let arguments: Vec<&str> = words.take(MOST_ARGUMENTS + 1).collect(heap)?;
-        if arguments.len() > MOST_ARGUMENTS {
-            return Err(Wrong::WordCount.into());
+        let mut arguments = ArrayVec::new();
+        for argument in words {
+            arguments.try_push(argument).map_err(|_| Wrong::WordCount)?;
         }
         Ok(Some(Line {
             name: word.parse()?,

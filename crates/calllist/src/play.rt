@@ -65,6 +65,7 @@ impl<M: Method> Player<M> {
     fn shelve(&mut self, t: u32) -> Result<Answer, Rejection>
         ensures answer { Tells result (by_slip self.old.held (λ s. (step M.Method.column (view self.old.session.ledger) (seen M.Key.LineKey.coding (fed Shelving s.id t 0 []))).answer)) }
         ensures spent { IfSome self.old.held (λ s. Spendable (view self.old.session.ledger) s.id t → self.new.held ≡ None) }
+        ensures none { self.old.held ≡ None → self.new.held ≡ None }
     {
         let slip = self.held.take().ok_or(Rejection::NoSlip)?;
         match self.session.shelve(t, slip) {
@@ -103,14 +104,14 @@ impl<M: Method> Player<M> {
     // Plays a line, and prints the answer of its call.
     fn play_line<F: ChargingFunction>(
         &mut self,
-        rt: &(impl Print + AllocGlobal),
+        rt: &impl Print,
         text: &str,
         link: &mut Link<F>,
     ) -> Result<(), Stop>
     where
         M::Key: ReadKey,
     {
-        let Some(line) = Line::read(rt.alloc(), text)? else {
+        let Some(line) = Line::read(text)? else {
             return Ok(());
         };
         match line.name {
@@ -130,7 +131,7 @@ impl<M: Method> Player<M> {
 
     fn play_lines<F: ChargingFunction>(
         &mut self,
-        rt: &(impl Print + AllocGlobal),
+        rt: &impl Print,
         input: &mut Input,
         link: &mut Link<F>,
     ) -> Result<(), Stop>
@@ -162,7 +163,7 @@ impl<M: Method> Player<M> {
 
 // Plays the lines that are left.
 pub(crate) fn play<M: Method, F: ChargingFunction>(
-    rt: &(impl Print + AllocGlobal),
+    rt: &impl Print,
     input: &mut Input,
     session: Session<M>,
     link: &mut Link<F>,

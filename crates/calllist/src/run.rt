@@ -1,4 +1,8 @@
 // Running a whole call list: what is before the calls, the calls, and the book.
+ghost use Rattle.std.specs.Prelude.{◌≡◌};
+ghost use Rattle.session.specs.Steps.{refused_why};
+ghost use Rattle.calllist.specs.Shown.{book_made, refused_at};
+
 use crate::answer::*;
 use crate::input::Input;
 use crate::play::play;
@@ -7,15 +11,27 @@ use crate::stop::Stop;
 use entries::book::*;
 use entries::entry::*;
 use entries::link::*;
-use entries::making::Unmade;
+use entries::making::*;
 use entries::taker::*;
 
 // Why a book of so many places is not made: one place too many is enough for the making to say so, with the places asked for.
-fn places_refused(why: Unmade, places: u32) -> Rejection {
-    Rejection::Book(match why {
+fn places_refused(why: Unmade, places: u32) -> Unmade
+    ensures { result ≡ refused_at places why }
+{
+    match why {
         Unmade::WrongLength(_) => Unmade::WrongLength(places as usize),
         Unmade::TooManyOverrides => why,
-    })
+    }
+}
+
+// What is told of the making of a book of so many places.
+fn told_book<T, L>(making: &Result<T, Refused<Unmade, L>>, places: u32) -> Result<Answer, Rejection>
+    ensures { result ≡ book_made places (refused_why making.now) }
+{
+    match making {
+        Ok(_) => Ok(Answer::Made),
+        Err(refused) => Err(Rejection::Book(places_refused(refused.why, places))),
+    }
 }
 
 // Plays the calls on a session of its method. Sessions of other keys are other types, so each method has its arm.
@@ -61,9 +77,10 @@ fn run(rt: &HostRuntime, input: &mut Input) -> Result<(), Stop> {
     } = setup;
     let asked = (places as usize).min(MOST_ENTRIES + 1);
     let mut table = vec![in rt.alloc(); BLANK_ENTRY; asked]?;
-    match Book::new(&mut table, &overrides) {
+    let making = Book::new(&mut table, &overrides);
+    say(rt, "book", told_book(&making, places))?;
+    match making {
         Ok(book) => {
-            say(rt, "book", Ok(Answer::Made))?;
             let mut link = Link::new(book);
             play_on(rt, input, session, &mut link)?;
             for e in link.below().entries() {
@@ -71,11 +88,7 @@ fn run(rt: &HostRuntime, input: &mut Input) -> Result<(), Stop> {
             }
             Ok(())
         }
-        Err(refused) => {
-            let why = places_refused(refused.why, places);
-            say(rt, "book", Err(why))?;
-            play_on(rt, input, session, &mut Link::new(refused))
-        }
+        Err(refused) => play_on(rt, input, session, &mut Link::new(refused)),
     }
 }
 

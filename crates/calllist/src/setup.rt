@@ -1,4 +1,8 @@
 // The lines before the calls: session, profile and book.
+ghost use Rattle.std.specs.Prelude.{◌≡◌};
+ghost use Rattle.session.specs.Steps.{made, refused_why};
+ghost use Rattle.calllist.specs.Shown.{session_made};
+
 use crate::answer::*;
 use crate::input::Input;
 use crate::line::*;
@@ -7,6 +11,7 @@ use entries::link::Link;
 use entries::making::Refused;
 use entries::method::*;
 use entries::taker::*;
+use session::answer::NotMade;
 use session::session::Session;
 use std::alloc::AllocError;
 
@@ -18,16 +23,27 @@ pub enum AnySession {
     Qos(Session<QosFlow>),
 }
 
+// The session of a making, a shelved one where it is refused, and what is told of it.
+fn told_session<M: Method>(
+    making: Result<Session<M>, Refused<NotMade, Session<M>>>,
+) -> (Session<M>, Result<Answer, Rejection>)
+    ensures session { result.0 ≡ made making }
+    ensures told { result.1 ≡ session_made (refused_why making) }
+{
+    match making {
+        Ok(session) => (session, Ok(Answer::Made)),
+        Err(Refused { why, left }) => (left, Err(Rejection::Session(why))),
+    }
+}
+
 // Makes the session of a line, and prints whether it was made.
 fn make_session<M: Method>(
     rt: &(impl Print + AllocGlobal),
     method: M,
     line: SessionLine,
 ) -> Result<Session<M>, Stop> {
-    let (session, answer) = match Session::new(rt.alloc(), method, line.id, line.thresholds) {
-        Ok(session) => (session, Ok(Answer::Made)),
-        Err(Refused { why, left }) => (left, Err(Rejection::Session(why))),
-    };
+    let making = Session::new(rt.alloc(), method, line.id, line.thresholds);
+    let (session, answer) = told_session(making);
     say(rt, "session", answer)?;
     Ok(session)
 }
@@ -65,7 +81,7 @@ pub(crate) fn read_setup(
     let mut overrides = Vec::new(rt.alloc());
     for text in input.by_ref() {
         let text = text?;
-        let Some(line) = Line::read(rt.alloc(), &text)? else {
+        let Some(line) = Line::read(&text)? else {
             continue;
         };
         match line.name {
@@ -93,7 +109,7 @@ pub(crate) fn await_session<F: ChargingFunction>(
 ) -> Result<Option<AnySession>, Stop> {
     for text in input.by_ref() {
         let text = text?;
-        let Some(line) = Line::read(rt.alloc(), &text)? else {
+        let Some(line) = Line::read(&text)? else {
             continue;
         };
         match line.name {

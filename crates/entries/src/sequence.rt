@@ -13,6 +13,24 @@ pub fn begins_request(e: &Entry, left: usize) -> bool
     n <= MOST_CONTAINERS && n <= left && head_formed(e, n)
 }
 
+// Whether an entry goes on with a sequence in which so many containers are due.
+pub fn goes_on(due: u32, e: &Entry, left: usize) -> bool
+    ensures { result ≡ goes_on due e.now left }
+{
+    if due == 0 {
+        begins_request(e, left)
+    } else {
+        container_formed(e)
+    }
+}
+
+// The containers due behind it.
+pub fn due_after(due: u32, e: &Entry) -> u32
+    ensures { result ≡ due_after due e.now }
+{
+    if due == 0 { e.number } else { due - 1 }
+}
+
 // How far entries are known to be requests: so many are left, so many containers are due, so many requests are begun.
 #[derive(Clone, Copy)]
 pub struct Sequence {

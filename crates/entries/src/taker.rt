@@ -66,8 +66,8 @@ pub trait Taker {
 pub const MOST_OVERRIDES: usize = 32;
 
 // What a charging function wants of a trigger, in the numbers in which it comes: of a trigger, of a `Switch`, of a
-// `Category`, and a threshold, of which 0 leaves what was. Any number may stand there; an override with one that is none of
-// these is passed over.
+// `Category`, and a threshold, of which 0 leaves what was. Any number may stand there; an override with one that is out of
+// range, or of a trigger that the method lacks, is passed over.
 #[derive(Clone, Copy, PartialEq, Eq, Debug)]
 pub struct Override {
     pub trigger: u8,

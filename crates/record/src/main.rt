@@ -9,11 +9,13 @@ use entries::sum::*;
 use journal::journal::*;
 use journal::reader::*;
 use sample::*;
-use std::alloc::Global;
 use std::process::ExitCode;
 
 // The bytes of the journal, more than the session needs.
 const BYTES: usize = 512;
+
+// The most entries that the program shows.
+const MOST_SHOWN: usize = 8;
 
 fn show_octets(rt: &impl Print, entries: &[Entry], period: u16) -> Result<()> {
     let octets = sum(entries, &KEY, period)?;
@@ -23,13 +25,17 @@ fn show_octets(rt: &impl Print, entries: &[Entry], period: u16) -> Result<()> {
 }
 
 // Reads a journal back, and prints what it has.
-fn read_back(rt: &impl Print, heap: Global, reader: &Reader) -> Result<()> {
-    let entries: Vec<Entry> = reader.entries().collect(heap)?;
-    for e in &entries {
+fn read_back(rt: &impl Print, reader: &Reader) -> Result<()> {
+    let mut table = [BLANK_ENTRY; MOST_SHOWN];
+    for (place, e) in table.iter_mut().zip(reader.entries()) {
+        *place = e;
+    }
+    let entries = &table[..reader.count().min(MOST_SHOWN)];
+    for e in entries {
         println!(rt; "{e}")?;
     }
-    show_octets(rt, &entries, 0)?;
-    show_octets(rt, &entries, 1)
+    show_octets(rt, entries, 0)?;
+    show_octets(rt, entries, 1)
 }
 
 fn run(rt: &HostRuntime) -> Result<()> {
@@ -37,7 +43,7 @@ fn run(rt: &HostRuntime) -> Result<()> {
     let mut bytes = [0u8; BYTES];
     let mut link = Link::new(Journal::new(&mut bytes, &[])?);
     charge(&mut session, &mut link)?;
-    read_back(rt, rt.alloc(), &link.below().reader()?)
+    read_back(rt, &link.below().reader()?)
 }
 
 fn main(rt: HostRuntime) -> ExitCode {

@@ -61,7 +61,7 @@ abbrev pub made : {W T : Type 0} → Result T (Refused W T) → T
 made (Ok s) = s
 made (Err r) = r.left
 
-abbrev pub refused_why : {W T : Type 0} → Result T (Refused W T) → Option W
+abbrev pub refused_why : {W T L : Type 0} → Result T (Refused W L) → Option W
 refused_why (Ok s) = None
 refused_why (Err r) = Some r.why
 

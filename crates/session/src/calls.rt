@@ -45,9 +45,7 @@ impl Ledger {
         Ok(opened)
     }
 
-    // Decides a call, performs it and reports, unless there is no place for its containers. It is a function of its own, so
-    // that a quiet report does not pay for its locals.
-    #[inline(never)]
+    // Decides a call, performs it and reports, unless there is no place for its containers.
     fn carry_out<T: Taker>(
         &mut self,
         event: Event<Option<LineId>>,

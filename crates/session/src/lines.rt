@@ -57,6 +57,10 @@ impl Selection {
         ensures count { result ≡ closing_count (closes self t) lines.now }
         ensures most { result ≤ length lines.now }
     {
+        // most calls close nothing, and look at no line
+        if let Selection::Nothing = self {
+            return 0;
+        }
         lines.iter().filter(|line| self.chooses(line, t)).count()
     }
 }
@@ -101,6 +105,9 @@ impl Closing {
         ensures longer { vec_len waiting.new ≡ vec_len waiting.old + closing_count (closes_by self.now) lines.old.items }
         ensures reserved { vec_capacity waiting.new ≡ vec_capacity waiting.old }
     {
+        if let Selection::Nothing = self.chosen {
+            return done;
+        }
         let mut number = done;
         for line in lines.iter_mut() {
             if self.chosen.chooses(line, self.time) {
