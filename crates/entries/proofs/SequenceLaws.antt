@@ -316,16 +316,3 @@ judge_more es i due m left d r h l e =
     at_drop_more (judge i due m) es i d h
     ∙ ap (λ b. cond b (judge (i + 1) (due_after due (get_or es i d)) (begun_with due m) (drop (i + 1) es)) (Err i))
     (ap (goes_on due (get_or es i d)) k ∙ sym e)
-
--- the requests begun with an entry
-
-pub begun_head : (due m b : ℕ) → due ≡ 0 → b ≡ m + 1 → b ≡ begun_with due m
-begun_head due m b e f = rw e f
-
-pub begun_container : (due m b : ℕ) → (due ≡ 0 → ⊥) → b ≡ m → b ≡ begun_with due m
-begun_container zero m b e f = absurd (e refl)
-begun_container (suc due) m b e f = f
-
-pub begun_more : (due m i : ℕ) → m ≤ i → begun_with due m ≤ i + 1
-begun_more zero m i h = omega arith
-begun_more (suc due) m i h = omega arith

@@ -11,25 +11,19 @@ use crate::layout::*;
 use entries::entry::*;
 use entries::sequence::*;
 
-// How many requests the entries are, or the first entry at which they stop being requests. A loop of its own: over a `Sequence`,
-// which counts the entries left besides, it took nearly twice the time.
+// How many requests the entries are, or the first entry at which they stop being requests. The loop is that of
+// count_requests: one for both would take a closure that reads an entry, and is no plainer.
 fn check_entries(entries: &[[u8; ENTRY_SIZE]]) -> Result<usize, Fault>
     requires { length entries.now < 2 ^ 33 }
     ensures { result ≡ placed (requests_in (map entry_of entries.now)) }
 {
-    let mut due = 0;
-    let mut begun = 0;
+    let mut sequence = Sequence::of(entries.len());
     for (i, bytes) in entries.iter().enumerate() {
-        let e = read_entry(bytes);
-        if !goes_on(due, &e, entries.len() - i - 1) {
+        if !sequence.accept(&read_entry(bytes)) {
             return Err(Fault::Form(entry_offset(i)));
         }
-        if due == 0 {
-            begun += 1;
-        }
-        due = due_after(due, &e);
     }
-    Ok(begun)
+    Ok(sequence.requests)
 }
 
 // The bytes of each entry.
